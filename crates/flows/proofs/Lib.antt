@@ -1,0 +1,11 @@
+pub mod Equal
+pub mod Runs
+pub mod Meaning
+pub mod Words
+pub mod Canonical
+pub mod Cells
+pub mod Stored
+pub mod FlowRules
+pub mod Lengths
+pub mod Cases
+pub mod Deciding

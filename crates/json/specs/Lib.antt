@@ -1,0 +1,3 @@
+pub mod Rfc8259
+pub mod Reading
+pub mod Judged

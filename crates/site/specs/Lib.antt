@@ -1,0 +1,3 @@
+pub mod Url
+pub mod Line
+pub mod Site

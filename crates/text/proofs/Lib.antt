@@ -1,0 +1,9 @@
+pub mod Tests
+pub mod ByteLaws
+pub mod WordLaws
+pub mod NumberLaws
+pub mod NetworkLaws
+pub mod WrittenLaws
+pub mod Clearing
+pub mod ReadBack
+pub mod Walk
