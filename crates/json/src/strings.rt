@@ -33,7 +33,7 @@ fn is_plain(b: u8) -> bool
     is_between(b, 0x5D, 0x7F)
 }
 
-fn is_escape(b: u8) -> bool
+pub fn is_escape(b: u8) -> bool
     ensures { λ r. ⌜ r ≡ isEscape b ⌝ }
 {
     match b {
@@ -58,7 +58,7 @@ fn plain(s: &[u8], at: usize) -> usize
 }
 
 // `n` digits of base 16.
-fn hex(s: &[u8], at: usize, n: usize) -> Read
+pub fn hex(s: &[u8], at: usize, n: usize) -> Read
     ensures { λ r. ⌜ r ≡ timesAt isHex n (now (s .entry)) at ⌝ }
 {
     let mut i = at;

@@ -1,9 +1,11 @@
 -- Laws of tests. Assumes nothing.
 use Prim.Native.Nat.{ℕ}
-use mathlib.Core.Path.{_≡_, refl}
-use mathlib.Core.Bool.{Bool, true, false, cond, _&&_, _||_, or-true}
+use mathlib.Core.Path.{_≡_, refl, sym, _∙_}
+use mathlib.Core.Bool.{Bool, true, false, cond, _&&_, _||_, not, or-true, or-false}
 use mathlib.Core.Logic.{_⊎_, inl, inr}
 use native.Mathlib.Omega.{arith}
+use borrow.Author.Needs.{needs}
+use borrow.Author.Tests.{not-true, not-false}
 
 -- a test, by cases, with the equation
 pub by-test {ℓ} : {P : Type ℓ} (b : Bool) → (b ≡ true → P) → (b ≡ false → P) → P
@@ -57,3 +59,22 @@ or-map {a} {b} {c} {d} f g e = go (or-split a b e)
 
 pub or-else : (a b : Bool) → (a || b) ≡ true → a ≡ false → b ≡ true
 or-else a b e f = rw f at e
+
+-- ## code that makes one test after the other
+module _ {a p : Bool} (e : a ≡ p) where
+  pub and-no : not a ≡ true → (q : Bool) → false ≡ (p && q)
+  and-no n q = rw (← e, not-true a n)
+
+  pub and-on : not a ≡ false → {r q : Bool} → r ≡ q → r ≡ (p && q)
+  and-on y h = rw (← e, not-false a y) h
+
+  pub or-here : a ≡ true → (q : Bool) → true ≡ (p || q)
+  or-here y q = rw (← e, y)
+
+  pub or-next : a ≡ false → {r q : Bool} → r ≡ q → r ≡ (p || q)
+  or-next n h = rw (← e, n) h
+
+  pub or-last : a ≡ (p || false)
+  or-last = e ∙ sym (or-false p)
+
+pub ruleset chained = (needs, and-no, and-on, or-here, or-next, or-last)

@@ -1,0 +1,237 @@
+// Number 9: members that are not listed.
+use json::Next;
+use json::Read;
+use json::space::token;
+use text::bytes::byte_at;
+use values::Found;
+use values::strings::string_is;
+use values::walk::member;
+use values::walk::name_place;
+use values::walk::next_member;
+ghost use mathlib.Core.Path.{_≡_};
+ghost use Rattle.values.specs.Decode.{bytesAt};
+ghost use Rattle.values.specs.Tree.{membersAt, membersOf, nameAt, treeAt, lookup};
+ghost use Rattle.values.specs.Rules.{may, allNames};
+ghost use Rattle.header.specs.Asked.{isAmong};
+ghost use Rattle.entries.specs.Known.{only, namesOf, portsKnown, matchesKnown, entryKnown};
+
+// The objects for which members are listed.
+pub enum Listed {
+    Matches,
+    Mud,
+    Ipv4,
+    Tcp,
+    Udp,
+    Port,
+}
+
+fn is_match(s: &[u8], at: usize) -> bool
+    ensures { λ r. ⌜ r ≡ isAmong (bytesAt (now (s .entry)) at) (namesOf Listed.Matches) ⌝ }
+{
+    if string_is(s, at, b"ietf-mud:mud") {
+        return true;
+    }
+    if string_is(s, at, b"ipv4") {
+        return true;
+    }
+    if string_is(s, at, b"tcp") {
+        return true;
+    }
+    string_is(s, at, b"udp")
+}
+
+fn is_mud(s: &[u8], at: usize) -> bool
+    ensures { λ r. ⌜ r ≡ isAmong (bytesAt (now (s .entry)) at) (namesOf Listed.Mud) ⌝ }
+{
+    if string_is(s, at, b"manufacturer") {
+        return true;
+    }
+    if string_is(s, at, b"model") {
+        return true;
+    }
+    if string_is(s, at, b"controller") {
+        return true;
+    }
+    if string_is(s, at, b"same-manufacturer") {
+        return true;
+    }
+    if string_is(s, at, b"local-networks") {
+        return true;
+    }
+    string_is(s, at, b"my-controller")
+}
+
+fn is_ipv4(s: &[u8], at: usize) -> bool
+    ensures { λ r. ⌜ r ≡ isAmong (bytesAt (now (s .entry)) at) (namesOf Listed.Ipv4) ⌝ }
+{
+    if string_is(s, at, b"protocol") {
+        return true;
+    }
+    if string_is(s, at, b"source-ipv4-network") {
+        return true;
+    }
+    if string_is(s, at, b"destination-ipv4-network") {
+        return true;
+    }
+    if string_is(s, at, b"ietf-acldns:src-dnsname") {
+        return true;
+    }
+    string_is(s, at, b"ietf-acldns:dst-dnsname")
+}
+
+fn is_tcp(s: &[u8], at: usize) -> bool
+    ensures { λ r. ⌜ r ≡ isAmong (bytesAt (now (s .entry)) at) (namesOf Listed.Tcp) ⌝ }
+{
+    if string_is(s, at, b"source-port") {
+        return true;
+    }
+    if string_is(s, at, b"destination-port") {
+        return true;
+    }
+    string_is(s, at, b"ietf-mud:direction-initiated")
+}
+
+fn is_udp(s: &[u8], at: usize) -> bool
+    ensures { λ r. ⌜ r ≡ isAmong (bytesAt (now (s .entry)) at) (namesOf Listed.Udp) ⌝ }
+{
+    if string_is(s, at, b"source-port") {
+        return true;
+    }
+    string_is(s, at, b"destination-port")
+}
+
+fn is_port(s: &[u8], at: usize) -> bool
+    ensures { λ r. ⌜ r ≡ isAmong (bytesAt (now (s .entry)) at) (namesOf Listed.Port) ⌝ }
+{
+    if string_is(s, at, b"lower-port") {
+        return true;
+    }
+    if string_is(s, at, b"upper-port") {
+        return true;
+    }
+    if string_is(s, at, b"port") {
+        return true;
+    }
+    string_is(s, at, b"operator")
+}
+
+fn is_listed(s: &[u8], at: usize, listed: Listed) -> bool
+    ensures { λ r. ⌜ r ≡ isAmong (bytesAt (now (s .entry)) at) (namesOf listed) ⌝ }
+{
+    match listed {
+        Listed::Matches => is_match(s, at),
+        Listed::Mud => is_mud(s, at),
+        Listed::Ipv4 => is_ipv4(s, at),
+        Listed::Tcp => is_tcp(s, at),
+        Listed::Udp => is_udp(s, at),
+        Listed::Port => is_port(s, at),
+    }
+}
+
+fn name_listed(s: &[u8], at: usize, listed: Listed) -> bool
+    ensures { λ r. ⌜ r ≡ isAmong (nameAt (now (s .entry)) at) (namesOf listed) ⌝ }
+{
+    is_listed(s, name_place(s, at), listed)
+}
+
+// Whether all members after the bracket are listed.
+fn all_listed(s: &[u8], at: usize, depth: usize, listed: Listed) -> bool
+    ensures { λ r. ⌜ r ≡ allNames (λ n. isAmong n (namesOf listed)) (membersOf (treeAt depth (now (s .entry))) (now (s .entry)) (membersAt depth (now (s .entry)) at)) ⌝ }
+{
+    if let Read::End(_) = token(s, at, b'}') {
+        return true;
+    }
+    let mut j = at;
+    loop {
+        if !name_listed(s, j, listed) {
+            return false;
+        }
+        match next_member(s, j, depth) {
+            Next::Done(_) => {
+                return true;
+            }
+            Next::Wrong(_) => {
+                return true;
+            }
+            Next::More(k) => {
+                j = k;
+            }
+        }
+    }
+}
+
+// What is no object has no members.
+fn only_listed(s: &[u8], at: usize, depth: usize, listed: Listed) -> bool
+    ensures { λ r. ⌜ r ≡ only (namesOf listed) (treeAt depth (now (s .entry)) at) ⌝ }
+{
+    if depth == 0 {
+        return true;
+    }
+    if byte_at(s, at) != b'{' {
+        return true;
+    }
+    all_listed(s, at + 1, depth - 1, listed)
+}
+
+fn may_have(s: &[u8], at: usize, depth: usize, name: &[u8], listed: Listed) -> bool
+    ensures { λ r. ⌜ r ≡ may (lookup (now (name .entry)) (treeAt depth (now (s .entry)) at)) (only (namesOf listed)) ⌝ }
+{
+    match member(s, at, depth, name) {
+        Found::Missing => true,
+        Found::At(p) => {
+            if depth == 0 {
+                return true;
+            }
+            only_listed(s, p, depth - 1, listed)
+        }
+    }
+}
+
+fn ports_known(s: &[u8], at: usize, listed: Listed) -> bool
+    ensures { λ r. ⌜ r ≡ portsKnown listed (treeAt 8 (now (s .entry)) at) ⌝ }
+{
+    if !only_listed(s, at, 8, listed) {
+        return false;
+    }
+    if !may_have(s, at, 8, b"source-port", Listed::Port) {
+        return false;
+    }
+    may_have(s, at, 8, b"destination-port", Listed::Port)
+}
+
+fn may_have_ports(s: &[u8], at: usize, name: &[u8], listed: Listed) -> bool
+    ensures { λ r. ⌜ r ≡ may (lookup (now (name .entry)) (treeAt 9 (now (s .entry)) at)) (portsKnown listed) ⌝ }
+{
+    match member(s, at, 9, name) {
+        Found::Missing => true,
+        Found::At(p) => ports_known(s, p, listed),
+    }
+}
+
+fn matches_known(s: &[u8], at: usize) -> bool
+    ensures { λ r. ⌜ r ≡ matchesKnown (treeAt 9 (now (s .entry)) at) ⌝ }
+{
+    if !only_listed(s, at, 9, Listed::Matches) {
+        return false;
+    }
+    if !may_have(s, at, 9, b"ietf-mud:mud", Listed::Mud) {
+        return false;
+    }
+    if !may_have(s, at, 9, b"ipv4", Listed::Ipv4) {
+        return false;
+    }
+    if !may_have_ports(s, at, b"tcp", Listed::Tcp) {
+        return false;
+    }
+    may_have_ports(s, at, b"udp", Listed::Udp)
+}
+
+// Whether an entry has only members that are listed, in `matches` and below.
+pub fn is_known(s: &[u8], at: usize) -> bool
+    ensures { λ r. ⌜ r ≡ entryKnown (treeAt 10 (now (s .entry)) at) ⌝ }
+{
+    match member(s, at, 10, b"matches") {
+        Found::Missing => true,
+        Found::At(p) => matches_known(s, p),
+    }
+}

@@ -1,0 +1,9 @@
+pub mod Decoding
+pub mod Comparing
+pub mod Walking
+pub mod Sorts
+pub mod Counting
+pub mod Ordering
+pub mod Naming
+pub mod Cleaning
+pub mod Patterns

@@ -1,0 +1,46 @@
+-- The words that rules over a tree are put together from.
+use Prim.Native.Nat.{ℕ}
+use mathlib.Core.List.{List}
+use mathlib.Core.Bool.{Bool, true, false, cond, _&&_}
+use lib.Dec.{leb}
+use Rattle.values.specs.declared.Count.{Count}
+use Rattle.values.specs.declared.Count.the-variants.{Is, Not}
+use Rattle.values.specs.Tree.{Json, null, bool, integer, real, string, array, object, Elements, no-more, element, Members, nothing, member, Maybe, none, some}
+
+-- a member that must be there, and one that may be missing
+abbrev pub must : Maybe → (Json → Bool) → Bool
+must none f = false
+must (some j) f = f j
+
+abbrev pub may : Maybe → (Json → Bool) → Bool
+may none f = true
+may (some j) f = f j
+
+-- an integer from low to high
+abbrev pub within : ℕ → ℕ → Count → Bool
+within low high (Is n) = leb low n && leb n high
+within low high Not = false
+
+-- a string whose bytes pass a test
+abbrev pub text : (List ℕ → Bool) → Json → Bool
+text p null = false
+text p (bool b) = false
+text p (integer n) = false
+text p real = false
+text p (string b) = p b
+text p (array es) = false
+text p (object ms) = false
+
+-- every element passes a test, and the first one that does
+unfoldable pub all : (Json → Bool) → Elements → Bool
+all p no-more = true
+all p (element j es) = p j && all p es
+
+unfoldable pub firstWith : (Json → Bool) → Elements → Maybe
+firstWith p no-more = none
+firstWith p (element j es) = cond (p j) (some j) (firstWith p es)
+
+-- the name of every member passes a test
+unfoldable pub allNames : (List ℕ → Bool) → Members → Bool
+allNames p nothing = true
+allNames p (member n j ms) = p n && allNames p ms

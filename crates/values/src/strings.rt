@@ -1,0 +1,133 @@
+// Strings compared while they are decoded.
+use super::Head;
+use super::Order;
+use super::Piece;
+use super::decode::first;
+use super::decode::piece;
+use super::decode::raw;
+use super::decode::rest;
+use super::decode::wide;
+ghost use mathlib.Core.Path.{_≡_};
+ghost use Rattle.text.specs.Words.{sameBytes};
+ghost use Rattle.values.specs.Decode.{bytesAt, restOf};
+ghost use Rattle.values.specs.Clean.{allBytes, Later};
+ghost use Rattle.values.specs.Names.{orderOf};
+
+// Does the string whose first character stands at `at` stand for the bytes of `w`?
+pub fn string_is(s: &[u8], at: usize, w: &[u8]) -> bool
+    ensures { λ r. ⌜ r ≡ sameBytes (bytesAt (now (s .entry)) at) (now (w .entry)) ⌝ }
+{
+    let mut p = piece(s, at);
+    let mut n = 0;
+    while n < w.len() {
+        match first(p) {
+            Head::Nil => {
+                return false;
+            }
+            Head::Is(a) => {
+                if a != wide(w[n]) {
+                    return false;
+                }
+            }
+        }
+        p = rest(s, p);
+        n += 1;
+    }
+    match first(p) {
+        Head::Nil => true,
+        Head::Is(_) => false,
+    }
+}
+
+// Do two strings stand for the same bytes?
+pub fn same_string(s: &[u8], i: usize, j: usize) -> bool
+    ensures { λ r. ⌜ r ≡ sameBytes (bytesAt (now (s .entry)) i) (bytesAt (now (s .entry)) j) ⌝ }
+{
+    let mut p = piece(s, i);
+    let mut q = piece(s, j);
+    loop {
+        match first(p) {
+            Head::Nil => {
+                return match first(q) {
+                    Head::Nil => true,
+                    Head::Is(_) => false,
+                };
+            }
+            Head::Is(a) => match first(q) {
+                Head::Nil => {
+                    return false;
+                }
+                Head::Is(b) => {
+                    if a != b {
+                        return false;
+                    }
+                }
+            },
+        }
+        p = rest(s, p);
+        q = rest(s, q);
+    }
+}
+
+// What is left after the first byte, without the bytes that stand for themselves: they need no test.
+fn later(s: &[u8], p: Piece) -> Piece
+    ensures { λ r. ⌜ Later (now (s .entry)) (restOf (now (s .entry)) p) r ⌝ }
+{
+    if let Piece::One(_, n) = p {
+        return piece(s, raw(s, n));
+    }
+    rest(s, p)
+}
+
+// Has a string no surrogate without its partner?
+pub fn all_bytes(s: &[u8], at: usize) -> bool
+    ensures { λ r. ⌜ r ≡ allBytes (bytesAt (now (s .entry)) at) ⌝ }
+{
+    let mut p = piece(s, raw(s, at));
+    loop {
+        match first(p) {
+            Head::Nil => {
+                return true;
+            }
+            Head::Is(a) => {
+                if a >= 256 {
+                    return false;
+                }
+            }
+        }
+        p = later(s, p);
+    }
+}
+
+// How does one string stand to another?
+pub fn order(s: &[u8], i: usize, j: usize) -> Order
+    ensures { λ r. ⌜ r ≡ orderOf (bytesAt (now (s .entry)) i) (bytesAt (now (s .entry)) j) ⌝ }
+{
+    let mut p = piece(s, i);
+    let mut q = piece(s, j);
+    loop {
+        match first(p) {
+            Head::Nil => {
+                return match first(q) {
+                    Head::Nil => Order::Same,
+                    Head::Is(_) => Order::Less,
+                };
+            }
+            Head::Is(a) => match first(q) {
+                Head::Nil => {
+                    return Order::More;
+                }
+                Head::Is(b) => {
+                    if a < b {
+                        return Order::Less;
+                    }
+                    if b < a {
+                        return Order::More;
+                    }
+                }
+            },
+        }
+        p = rest(s, p);
+        q = rest(s, q);
+    }
+}
