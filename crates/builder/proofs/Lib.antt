@@ -1,0 +1,11 @@
+pub mod Words
+pub mod Masks
+pub mod Chosen
+pub mod Starts
+pub mod Sorting
+pub mod Cutting
+pub mod Laid
+pub mod Turns
+pub mod Levels
+pub mod Entry
+pub mod Reading

@@ -1,0 +1,4 @@
+pub mod Encoding
+pub mod Promise
+pub mod Cells
+pub mod Post

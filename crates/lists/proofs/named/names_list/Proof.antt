@@ -1,0 +1,14 @@
+use Rattle.lists.proofs.Laws.{listing}
+use Rattle.lists.proofs.named.names_list.Statement.{statement}
+use Rattle.lists.proofs.named.names_list.Tie as tie
+
+pub names-list-spec : {M : Type 1} → statement M
+names-list-spec =
+    tie.close
+    (tie.spec
+    (λ c κs. search listing)
+    (λ c. search listing)
+    (λ c. search listing)
+    (λ c κs. search listing)
+    (λ c. search listing)
+    (λ c. search listing))

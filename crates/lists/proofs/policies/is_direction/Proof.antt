@@ -1,0 +1,17 @@
+use Rattle.lists.proofs.Laws.{listing}
+use Rattle.lists.proofs.policies.is_direction.Statement.{statement}
+use Rattle.lists.proofs.policies.is_direction.Tie as tie
+
+pub is-direction-spec : {M : Type 1} → statement M
+is-direction-spec =
+    tie.close
+    (tie.spec
+    (λ c κs. search listing)
+    (λ c. search listing)
+    (λ c κs. search listing)
+    (λ c. search listing)
+    (λ c. search listing)
+    (λ c κs. search listing)
+    (λ c κs. search listing)
+    (λ c. search listing)
+    (λ c. search listing))

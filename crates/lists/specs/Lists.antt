@@ -1,0 +1,157 @@
+-- Number 8 (document 01, 'The MUD rules'): "policies, lists, types, names".
+use Prim.Native.Nat.{ℕ}
+use mathlib.Core.List.{List, [], _∷_, _++_}
+use mathlib.Core.Bool.{Bool, true, false, not, _&&_, cond}
+use Rattle.text.specs.Ascii.{ascii}
+use Rattle.text.specs.Words.{sameBytes}
+use Rattle.flows.specs.declared.Direction.{Direction}
+use Rattle.flows.specs.declared.Direction.the-variants.{FromDevice, ToDevice}
+use Rattle.values.specs.Tree.{Json, null, bool, integer, real, string, array, object, Elements, no-more, element, Maybe, none, some, lookup, isObject}
+use Rattle.values.specs.Rules.{must, may, text, all, firstWith}
+use Rattle.header.specs.Asked.{isAmong, obeys}
+use Rattle.header.specs.declared.asked.Asked.the-variants.{Text}
+
+-- ## names
+-- "objects with a string `name`": nothing but an object has members
+unfoldable pub hasStringName : Json → Bool
+hasStringName j = must (lookup (ascii "name") j) (obeys Text)
+
+unfoldable pub isNamed : List ℕ → Json → Bool
+isNamed name j = must (lookup (ascii "name") j) (text (λ b. sameBytes b name))
+
+-- no later element has the name of an earlier one
+abbrev pub nameOf : Maybe → List ℕ
+nameOf none = []
+nameOf (some null) = []
+nameOf (some (bool b)) = []
+nameOf (some (integer n)) = []
+nameOf (some real) = []
+nameOf (some (string b)) = b
+nameOf (some (array es)) = []
+nameOf (some (object ms)) = []
+
+unfoldable pub namesOf : Elements → List (List ℕ)
+namesOf no-more = []
+namesOf (element j es) = nameOf (lookup (ascii "name") j) ∷ namesOf es
+
+-- "no name twice", "all names different"
+unfoldable pub allDifferent : List (List ℕ) → Bool
+allDifferent [] = true
+allDifferent (n ∷ ns) = not (isAmong n ns) && allDifferent ns
+
+-- "array of objects with a string `name`, no name twice"
+abbrev pub namedArray : Json → Bool
+namedArray null = false
+namedArray (bool b) = false
+namedArray (integer n) = false
+namedArray real = false
+namedArray (string b) = false
+namedArray (array es) = all hasStringName es && allDifferent (namesOf es)
+namedArray (object ms) = false
+
+-- an array's elements, and what stands at a path of two members, if anything does
+abbrev pub arrayIn : Maybe → Elements
+arrayIn none = no-more
+arrayIn (some null) = no-more
+arrayIn (some (bool b)) = no-more
+arrayIn (some (integer n)) = no-more
+arrayIn (some real) = no-more
+arrayIn (some (string b)) = no-more
+arrayIn (some (array es)) = es
+arrayIn (some (object ms)) = no-more
+
+abbrev pub then : Maybe → (Json → Maybe) → Maybe
+then none f = none
+then (some j) f = f j
+
+-- `outer` (object), then `inner` (a named array), "either absent means none"
+unfoldable pub innerOk : List ℕ → Json → Bool
+innerOk inner o = isObject o && may (lookup inner o) namedArray
+
+unfoldable pub nestedOk : List ℕ → List ℕ → Json → Bool
+nestedOk outer inner j = may (lookup outer j) (innerOk inner)
+
+unfoldable pub nested : List ℕ → List ℕ → Json → Elements
+nested outer inner j = arrayIn (then (lookup outer j) (lookup inner))
+
+-- ## policies
+unfoldable pub policyName : Direction → List ℕ
+policyName FromDevice = ascii "from-device-policy"
+policyName ToDevice = ascii "to-device-policy"
+
+-- "Each is an object; in it `access-lists` (object), then `access-list` (array ..); either absent means none."
+unfoldable pub policyShape : Json → Bool
+policyShape p = isObject p && nestedOk (ascii "access-lists") (ascii "access-list") p
+
+unfoldable pub policyOk : Direction → Json → Bool
+policyOk d mud = may (lookup (policyName d) mud) policyShape
+
+-- the elements of a policy's array: each names a list
+abbrev pub orNone : Maybe → (Json → Elements) → Elements
+orNone none f = no-more
+orNone (some j) f = f j
+
+unfoldable pub policyLists : Direction → Json → Elements
+policyLists d mud = orNone (lookup (policyName d) mud) (nested (ascii "access-lists") (ascii "access-list"))
+
+-- ## lists
+-- "In the outermost object `ietf-access-control-list:acls`, if present, is an object; its `acl`, if present, is an array of objects, each with
+-- a string `name`, all names different."
+unfoldable pub listsOk : Json → Bool
+listsOk file = nestedOk (ascii "ietf-access-control-list:acls") (ascii "acl") file
+
+unfoldable pub listsOf : Json → Elements
+listsOf file = nested (ascii "ietf-access-control-list:acls") (ascii "acl") file
+
+-- "A named list has `type` `ipv4-acl-type` or `ipv6-acl-type`, without a module prefix."
+unfoldable pub hasType : List ℕ → Json → Bool
+hasType type list = must (lookup (ascii "type") list) (text (λ b. sameBytes b type))
+
+abbrev pub isIpv4 : Json → Bool
+isIpv4 list = hasType (ascii "ipv4-acl-type") list
+
+-- "An IPv6 list adds nothing and is read no further .. In an IPv4 list `aces` (object) and in it `ace` (array of objects, each with a string
+-- `name`, no name twice) may be absent: no entries."
+unfoldable pub listOk : Json → Bool
+listOk list = cond (isIpv4 list) (nestedOk (ascii "aces") (ascii "ace") list) (hasType (ascii "ipv6-acl-type") list)
+
+-- "Every named list exists."
+unfoldable pub listNamed : Elements → Json → Maybe
+listNamed lists n = firstWith (isNamed (nameOf (lookup (ascii "name") n))) lists
+
+unfoldable pub namedOk : Elements → Json → Bool
+namedOk lists n = must (listNamed lists n) listOk
+
+unfoldable pub directionOk : Direction → Json → Json → Bool
+directionOk d file mud = policyOk d mud && all (namedOk (listsOf file)) (policyLists d mud)
+
+unfoldable pub bothOk : Json → Json → Bool
+bothOk file mud = directionOk FromDevice file mud && directionOk ToDevice file mud
+
+unfoldable pub policiesOk : Json → Bool
+policiesOk file = listsOk file && must (lookup (ascii "ietf-mud:mud") file) (bothOk file)
+
+-- ## the entries that are read
+abbrev pub toList : Elements → List Json
+toList no-more = []
+toList (element j es) = j ∷ toList es
+
+unfoldable pub listEntries : Json → List Json
+listEntries list = cond (isIpv4 list) (toList (nested (ascii "aces") (ascii "ace") list)) []
+
+abbrev pub entriesIn : Maybe → List Json
+entriesIn none = []
+entriesIn (some list) = listEntries list
+
+-- "lists in the order the policy names them"
+unfoldable pub entriesNamed : Elements → Elements → List Json
+entriesNamed lists no-more = []
+entriesNamed lists (element n ns) =
+    entriesIn (listNamed lists n) ++ entriesNamed lists ns
+
+abbrev pub orEmpty : Maybe → (Json → List Json) → List Json
+orEmpty none f = []
+orEmpty (some j) f = f j
+
+unfoldable pub entriesOf : Direction → Json → List Json
+entriesOf d file = orEmpty (lookup (ascii "ietf-mud:mud") file) (λ mud. entriesNamed (listsOf file) (policyLists d mud))

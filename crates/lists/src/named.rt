@@ -1,0 +1,118 @@
+// Lists by their names.
+use super::names::is_nested;
+use super::names::name_of;
+use json::Next;
+use json::Read;
+use json::space::skip;
+use json::space::token;
+use text::bytes::byte_at;
+use values::Found;
+use values::strings::same_string;
+use values::strings::string_is;
+use values::walk::member;
+use values::walk::next_element;
+ghost use mathlib.Core.Path.{_≡_};
+ghost use Prim.Native.Nat.{_-_, _≤_};
+ghost use Rattle.values.specs.Decode.{bytesAt};
+ghost use Rattle.values.specs.Tree.{treeAt, seen};
+ghost use Rattle.values.specs.Rules.{firstWith};
+ghost use Rattle.lists.specs.Places.{elementsIn, elementsSeen};
+ghost use Rattle.lists.specs.Lists.{isNamed, arrayIn, nested, hasType, listOk, listNamed, namedOk};
+
+// Whether the element at a place has the name whose first character stands at `i`.
+fn is_named(s: &[u8], at: usize, i: usize) -> bool
+    ensures { λ r. ⌜ r ≡ isNamed (bytesAt (now (s .entry)) i) (treeAt 13 (now (s .entry)) at) ⌝ }
+{
+    let Found::At(p) = member(s, at, 13, b"name") else {
+        return false;
+    };
+    if byte_at(s, p) != b'"' {
+        return false;
+    }
+    same_string(s, p + 1, i)
+}
+
+// The first of the lists after the bracket that has the name.
+fn first_named(s: &[u8], at: usize, i: usize) -> Found
+    ensures { λ r. ⌜ firstWith (isNamed (bytesAt (now (s .entry)) i)) (elementsIn 13 (now (s .entry)) at) ≡ seen (treeAt 13 (now (s .entry))) r ⌝ }
+{
+    if let Read::End(_) = token(s, at, b']') {
+        return Found::Missing;
+    }
+    let mut j = at;
+    loop {
+        let k = skip(s, j);
+        if is_named(s, k, i) {
+            return Found::At(k);
+        }
+        match next_element(s, j, 13) {
+            Next::Done(_) => {
+                return Found::Missing;
+            }
+            Next::Wrong(_) => {
+                return Found::Missing;
+            }
+            Next::More(k) => {
+                j = k;
+            }
+        }
+    }
+}
+
+// The list that an element of a policy names.
+pub fn list_of(s: &[u8], lists: Found, n: usize) -> Found
+    ensures { λ r. ⌜ listNamed (elementsSeen 13 (now (s .entry)) lists) (treeAt 11 (now (s .entry)) n) ≡ seen (treeAt 13 (now (s .entry))) r ⌝ }
+{
+    match lists {
+        Found::Missing => Found::Missing,
+        Found::At(at) => first_named(s, at, name_of(s, n, 11)),
+    }
+}
+
+// The elements of the array `inner` in the object `outer`, if there are any: where the first begins.
+pub fn nested_at(s: &[u8], at: usize, depth: usize, outer: &[u8], inner: &[u8]) -> Found
+    requires { ⌜ 3 ≤ depth ⌝ }
+    ensures { λ r. ⌜ nested (now (outer .entry)) (now (inner .entry)) (treeAt depth (now (s .entry)) at) ≡ elementsSeen (depth - 3) (now (s .entry)) r ⌝ }
+{
+    let Found::At(o) = member(s, at, depth, outer) else {
+        return Found::Missing;
+    };
+    let Found::At(p) = member(s, o, depth - 1, inner) else {
+        return Found::Missing;
+    };
+    if byte_at(s, p) != b'[' {
+        return Found::Missing;
+    }
+    Found::At(p + 1)
+}
+
+pub fn has_type(s: &[u8], at: usize, kind: &[u8]) -> bool
+    ensures { λ r. ⌜ r ≡ hasType (now (kind .entry)) (treeAt 13 (now (s .entry)) at) ⌝ }
+{
+    let Found::At(p) = member(s, at, 13, b"type") else {
+        return false;
+    };
+    if byte_at(s, p) != b'"' {
+        return false;
+    }
+    string_is(s, p + 1, kind)
+}
+
+fn is_list(s: &[u8], at: usize) -> bool
+    ensures { λ r. ⌜ r ≡ listOk (treeAt 13 (now (s .entry)) at) ⌝ }
+{
+    if has_type(s, at, b"ipv4-acl-type") {
+        return is_nested(s, at, 13, b"aces", b"ace");
+    }
+    has_type(s, at, b"ipv6-acl-type")
+}
+
+// Whether an element of a policy names a list that there is, and that is one.
+pub fn names_list(s: &[u8], lists: Found, n: usize) -> bool
+    ensures { λ r. ⌜ r ≡ namedOk (elementsSeen 13 (now (s .entry)) lists) (treeAt 11 (now (s .entry)) n) ⌝ }
+{
+    match list_of(s, lists, n) {
+        Found::Missing => false,
+        Found::At(at) => is_list(s, at),
+    }
+}
