@@ -1,4 +1,4 @@
--- What the inner functions leave in the work buffer.
+-- Inner words of the builder; its promise does not rest on them: what its functions leave in the work buffer.
 use Prim.Native.Nat.{ℕ, zero, suc, _+_, _-_, _*_, _≤_, _<_}
 use mathlib.Core.Path.{_≡_}
 use mathlib.Core.Bool.{Bool, true, false, cond, _&&_}

@@ -5,6 +5,7 @@ ghost use Prim.Native.Nat.{_<_, _≤_};
 ghost use lib.ListN.{length, take, drop, getD};
 ghost use Rattle.builder.specs.Encoding.{flowWords};
 
+// Word i of them.
 fn flow_word(i: usize) -> u64
     requires { ⌜ i < 105 ⌝ }
     ensures { λ r. ⌜ r ≡ getD flowWords i 0 ⌝ }

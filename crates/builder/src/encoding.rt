@@ -9,6 +9,7 @@ ghost use Rattle.flows.specs.Rules.{inAll};
 ghost use Rattle.builder.specs.Encoding.{lowOf, highOf, limitsOf, atMostSeven, accepting, ruled};
 ghost use Rattle.builder.specs.Cells.{nearOf, meetsAll};
 
+// The ends of a range, and whether it holds a value.
 pub fn low(w: u64) -> u64
     ensures { λ r. ⌜ r ≡ lowOf w ⌝ }
 {
@@ -73,6 +74,7 @@ fn names_meet(work: &[u64], x: usize, k: usize, near: u64) -> bool
     true
 }
 
+// A rule has room for seven names.
 fn at_most_seven(k: u64) -> usize
     ensures { λ r. ⌜ r ≡ atMostSeven k ⌝ }
 {

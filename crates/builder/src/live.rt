@@ -6,6 +6,7 @@ ghost use Prim.Native.Nat.{ℕ};
 ghost use lib.Bits.{bitAnd};
 ghost use Rattle.builder.specs.Cells.{firstOr, tableLeft, Ready};
 
+// Those that both sets have.
 pub fn meet(a: u64, b: u64) -> u64
     ensures { λ r. ⌜ r ≡ bitAnd a b ⌝ }
 {
@@ -20,6 +21,7 @@ fn first(ok: u64, live: u64, z: bool) -> bool
     if i < 64 { (ok >> i) % 2 == 1 } else { z }
 }
 
+// Whether the first live rule accepts; where none is live, no.
 pub fn accepts(ya: u64, yb: u64, a: u64, b: u64) -> bool
     ensures { λ r. ⌜ r ≡ firstOr 64 ya a (firstOr 64 yb b false) ⌝ }
 {

@@ -29,6 +29,7 @@ pub struct Narrowed {
     pub b: u64,
 }
 
+// The cell at place x, with those of a and b that hold it.
 fn cell_at(work: &[u64], x: usize, a: u64, b: u64) -> Narrowed
     requires { ⌜ x + 3 ≤ length (now work) ⌝ }
     ensures { λ r. ⌜ (r .low ≡ lowOf (getD (now (work .entry)) x 0)) × (r .high ≡ highOf (getD (now (work .entry)) x 0)) × (r .a ≡ bitAnd a (getD (now (work .entry)) (x + 1) 0)) × (r .b ≡ bitAnd b (getD (now (work .entry)) (x + 2) 0)) ⌝ }
@@ -81,44 +82,36 @@ pub fn section(
     let d = 6 - left;
     let last = top(d);
     let mut x = place(d);
-    let cell = cell_at(work, x, a, b);
-    let mut lo = cell.low;
-    let mut hi = cell.high;
-    let mut pa = cell.a;
-    let mut pb = cell.b;
-    let Built::Lines(first) = section(work, n, at, k, pa, pb, ya, yb) else {
+    let mut run = cell_at(work, x, a, b);
+    let Built::Lines(first) = section(work, n, at, k, run.a, run.b, ya, yb) else {
         return Built::Over;
     };
     let mut kept = at;
     let mut end = at + first;
-    while hi < last {
+    while run.high < last {
         x += 3;
         let next = cell_at(work, x, a, b);
-        let up = next.high;
-        let ma = next.a;
-        let mb = next.b;
-        if alike(ya, yb, ma, mb, pa, pb, k) {
-            hi = up;
+        if alike(ya, yb, next.a, next.b, run.a, run.b, k) {
+            run.high = next.high;
         } else {
-            pa = ma;
-            pb = mb;
-            let Built::Lines(more) = section(work, n, end, k, ma, mb, ya, yb) else {
+            let Built::Lines(more) = section(work, n, end, k, next.a, next.b, ya, yb) else {
                 return Built::Over;
             };
             let z = end + more;
-            if settle(work, kept, end, z, d, lo, hi) {
-                hi = up;
+            if settle(work, kept, end, z, d, run.low, run.high) {
+                run.high = next.high;
+                run.a = next.a;
+                run.b = next.b;
             } else {
                 if 512 < z - at {
                     return Built::Over;
                 }
                 kept = end;
                 end = z;
-                lo = next.low;
-                hi = up;
+                run = next;
             }
         }
     }
-    close(work, kept, end, d, lo, hi);
+    close(work, kept, end, d, run.low, run.high);
     Built::Lines(end - at)
 }

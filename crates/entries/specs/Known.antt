@@ -2,22 +2,16 @@
 -- What stands in place of such an object and is none has no members: that is number 10.
 use Prim.Native.Nat.{ℕ}
 use mathlib.Core.List.{List, [], _∷_}
-use mathlib.Core.Bool.{Bool, true, false, _&&_}
+use mathlib.Core.Bool.{Bool, _&&_}
 use Rattle.text.specs.Ascii.{ascii}
-use Rattle.values.specs.Tree.{Json, null, bool, integer, real, string, array, object, lookup}
+use Rattle.values.specs.Tree.{Json, fields, lookup}
 use Rattle.values.specs.Rules.{may, allNames}
 use Rattle.header.specs.Asked.{isAmong}
 use Rattle.entries.specs.declared.known.Listed.{Listed}
 use Rattle.entries.specs.declared.known.Listed.the-variants.{Matches, Mud, Ipv4, Tcp, Udp, Port}
 
 abbrev pub only : List (List ℕ) → Json → Bool
-only names null = true
-only names (bool b) = true
-only names (integer n) = true
-only names real = true
-only names (string b) = true
-only names (array es) = true
-only names (object ms) = allNames (λ n. isAmong n names) ms
+only names j = allNames (λ n. isAmong n names) (fields j)
 
 -- the members that each object may have
 abbrev pub namesOf : Listed → List (List ℕ)

@@ -1,7 +1,7 @@
 -- Number 10 (document 01, 'Answer numbers'): "in an entry read: any other breach in `matches` or `actions`".
 use Prim.Native.Nat.{ℕ}
 use mathlib.Core.List.{List}
-use mathlib.Core.Bool.{Bool, true, false, _&&_, _||_}
+use mathlib.Core.Bool.{Bool, false, _&&_, _||_}
 use lib.Dec.{leb}
 use Rattle.text.specs.Ascii.{ascii}
 use Rattle.flows.specs.declared.Direction.{Direction}

@@ -1,16 +1,15 @@
 // Number 9: members that are not listed.
 use json::Next;
-use json::Read;
-use json::space::token;
-use text::bytes::byte_at;
 use values::Found;
 use values::strings::string_is;
+use values::walk::first_field;
+use values::walk::inner;
 use values::walk::member;
 use values::walk::name_place;
 use values::walk::next_member;
 ghost use mathlib.Core.Path.{_≡_};
 ghost use Rattle.values.specs.Decode.{bytesAt};
-ghost use Rattle.values.specs.Tree.{membersAt, membersOf, nameAt, treeAt, lookup};
+ghost use Rattle.values.specs.Tree.{membersFrom, nameAt, treeAt, lookup};
 ghost use Rattle.values.specs.Rules.{may, allNames};
 ghost use Rattle.header.specs.Asked.{isAmong};
 ghost use Rattle.entries.specs.Known.{only, namesOf, portsKnown, matchesKnown, entryKnown};
@@ -134,13 +133,10 @@ fn name_listed(s: &[u8], at: usize, listed: Listed) -> bool
     is_listed(s, name_place(s, at), listed)
 }
 
-// Whether all members after the bracket are listed.
+// Whether all members from the one at a place on are listed.
 fn all_listed(s: &[u8], at: usize, depth: usize, listed: Listed) -> bool
-    ensures { λ r. ⌜ r ≡ allNames (λ n. isAmong n (namesOf listed)) (membersOf (treeAt depth (now (s .entry))) (now (s .entry)) (membersAt depth (now (s .entry)) at)) ⌝ }
+    ensures { λ r. ⌜ r ≡ allNames (λ n. isAmong n (namesOf listed)) (membersFrom depth (now (s .entry)) at) ⌝ }
 {
-    if let Read::End(_) = token(s, at, b'}') {
-        return true;
-    }
     let mut j = at;
     loop {
         if !name_listed(s, j, listed) {
@@ -164,13 +160,10 @@ fn all_listed(s: &[u8], at: usize, depth: usize, listed: Listed) -> bool
 fn only_listed(s: &[u8], at: usize, depth: usize, listed: Listed) -> bool
     ensures { λ r. ⌜ r ≡ only (namesOf listed) (treeAt depth (now (s .entry)) at) ⌝ }
 {
-    if depth == 0 {
-        return true;
+    match first_field(s, at, depth) {
+        Found::Missing => true,
+        Found::At(j) => all_listed(s, j, inner(depth), listed),
     }
-    if byte_at(s, at) != b'{' {
-        return true;
-    }
-    all_listed(s, at + 1, depth - 1, listed)
 }
 
 fn may_have(s: &[u8], at: usize, depth: usize, name: &[u8], listed: Listed) -> bool
@@ -178,12 +171,7 @@ fn may_have(s: &[u8], at: usize, depth: usize, name: &[u8], listed: Listed) -> b
 {
     match member(s, at, depth, name) {
         Found::Missing => true,
-        Found::At(p) => {
-            if depth == 0 {
-                return true;
-            }
-            only_listed(s, p, depth - 1, listed)
-        }
+        Found::At(p) => only_listed(s, p, inner(depth), listed),
     }
 }
 

@@ -10,7 +10,7 @@ use values::plain;
 use values::walk::member;
 ghost use mathlib.Core.Path.{_≡_};
 ghost use Rattle.values.specs.Tree.{treeAt, lookup};
-ghost use Rattle.values.specs.Rules.{must, may};
+ghost use Rattle.values.specs.Rules.{may};
 ghost use Rattle.entries.specs.Sound.{notAbove, inOrder, isRangeForm, isOperatorForm, portOk, portsOk, ordered};
 
 fn not_above(low: Count, high: Count) -> bool

@@ -12,7 +12,6 @@ ghost use mathlib.Core.Path.{_≡_};
 ghost use Rattle.text.specs.Ascii.{ascii};
 ghost use Rattle.values.specs.Tree.{treeAt, lookup};
 ghost use Rattle.values.specs.Rules.{must, may};
-ghost use Rattle.header.specs.Asked.{obeys};
 ghost use Rattle.entries.specs.Sound.{stringsOk, nullsOk, mudOk, sidesNamed, sidesOk, ipv4Ok, tcpOk, protocolIs, tcpBeside, udpBeside, transportOk, matchesOk, actionsOk, entryOk};
 
 fn are_strings(s: &[u8], at: usize) -> bool

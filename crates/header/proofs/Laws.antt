@@ -5,21 +5,19 @@ use native.Mathlib.Numerals.{add-one}
 use native.Mathlib.Nat.{mod-eq-of-lt}
 use mathlib.Core.Path.{_≡_, refl, sym, ap, _∙_, subst}
 use mathlib.Core.List.{List, [], _∷_, _++_, append-nil, append-assoc}
-use mathlib.Core.Bool.{Bool, true, false, not, _&&_, _||_, cond, or-false, and-false}
-use lib.ListN.{length, getD, take, set, length-take, length-append, length-set, drop-of-length-le}
+use mathlib.Core.Bool.{Bool, true, false, not, _&&_, cond, or-false, and-false}
+use lib.ListN.{length, take, set, length-take, length-append, length-set, drop-of-length-le}
 use lib.Seq.{take-suc-set, drop-cons}
-use lib.Dec.{eqb, ltb, leb}
+use lib.Dec.{ltb, leb}
 use borrow.Author.Needs.{needs}
 use borrow.Author.Tests.{not-true, not-false, eq-eqb, ne-eqb, le-leb, lt-leb, le-ltb, lt-ltb, leb-true, ltb-true, eqb-true}
 use Rattle.text.specs.Ascii.{ascii}
 use Rattle.text.specs.Words.{sameBytes}
 use Rattle.text.proofs.Tests.{by-test, both, clash, and-left, and-right}
-use Rattle.json.specs.declared.Read.{Read}
-use Rattle.json.specs.declared.Read.the-variants.{End, Bad}
 use Rattle.json.specs.declared.Next.{Next}
 use Rattle.json.specs.declared.Next.the-variants.{Done, More, Wrong}
 use Rattle.json.proofs.Runs.{past-is}
-use Rattle.json.specs.Reading.{isSpace, spanAt, tokenAt, elementAt, valueAt}
+use Rattle.json.specs.Reading.{isSpace, spanAt, elementAt, valueAt}
 use Rattle.values.specs.declared.Piece.{Piece}
 use Rattle.values.specs.declared.Head.{Head}
 use Rattle.values.specs.declared.Head.the-variants.{Nil}
@@ -31,11 +29,10 @@ use Rattle.values.proofs.Comparing.{first-nil, first-is, both-less}
 use Rattle.values.specs.declared.Found.{Found}
 use Rattle.values.specs.declared.Found.the-variants.{At, Missing}
 use Rattle.values.specs.declared.Count.{Count}
-use Rattle.values.specs.Tree.{Json, null, bool, integer, real, string, array, object, Elements, no-more, element, Members, nothing, numberOf, treeAt, treeOf, lookup, seen, isNull, isArray, isString, isBool, countOf}
+use Rattle.values.specs.Tree.{Json, Elements, no-more, element, elementsAfter, items, itemsFrom, treeAt, treeOf, lookup, seen, isNull, isString, isBool, countOf}
 use Rattle.values.specs.Rules.{must, may, within, text}
-use Rattle.values.proofs.Walking.{elementsFrom, elementsAfter, elements-turn, element-after-done, element-after-wrong, element-after-more, tree-string, tree-array, member-zero, tree-cases, number-cases}
-use Rattle.values.proofs.Patterns.{elementsIn, in-none, in-some, must-none, must-some, may-none, may-some}
-use Rattle.values.proofs.Sorts.{string-kind, array-kind}
+use Rattle.values.proofs.Walking.{elements-turn, element-after-done, element-after-wrong, element-after-more}
+use Rattle.values.proofs.Patterns.{must-none, must-some, may-none, may-some, text-is, text-not}
 use Rattle.text.specs.Bytes.{between}
 use Rattle.text.specs.Bytes.{isAt}
 use Rattle.text.specs.Numbers.{numberAt, quadAt}
@@ -50,7 +47,7 @@ use Rattle.text.proofs.NumberLaws.{Sound, number-sound, quad-sound}
 use Rattle.text.proofs.ReadBack.{number-spelt, quad-spelt}
 use Rattle.text.proofs.WrittenLaws.{length-below, quad-short}
 use Rattle.site.specs.Url.{isMudUrl, printable}
-use Rattle.header.specs.Asked.{isAmong, wholeNet, isNetwork, netIn, isNullArray, forwardings, operators, initiators, spelt, obeys}
+use Rattle.header.specs.Asked.{isAmong, wholeNet, isNetwork, netIn, oneNull, isNullArray, forwardings, operators, initiators, spelt, obeys}
 use Rattle.header.specs.Copied.{copiedOf, CopiedTo}
 use Rattle.header.specs.declared.strings.Copied.{Copied}
 use Rattle.header.specs.declared.strings.Copied.the-variants.{Bytes, TooLong}
@@ -91,69 +88,31 @@ module _ (b w₁ : List ℕ) {r₁ : Bool} (e₁ : r₁ ≡ sameBytes b w₁) wh
 
 pub ruleset wording = (needs, word-first, word-second, word-of-two, word-third, word-of-three, word-of-four)
 
--- ## kinds
-text-none : (p : List ℕ → Bool) (j : Json) → isString j ≡ false → false ≡ text p j
-text-none p null e = refl
-text-none p (bool b) e = refl
-text-none p (integer n) e = refl
-text-none p real e = refl
-text-none p (string b) e = sym e ∙ absurd (let z : _≡_ {A = ℕ} 0 1 = cc in omega arith)
-text-none p (array es) e = refl
-text-none p (object ms) e = refl
+-- ## `[null]`
+module _ (j : Json) (d : ℕ) (s : List ℕ) {r : Found} (e : items j ≡ itemsFrom d s r) where
+  pub nulls-empty : r ≡ Missing → false ≡ isNullArray j
+  nulls-empty q = rw (e, q)
 
-module _ (d : ℕ) (s : List ℕ) (at b : ℕ) (e : b ≡ getD s at 0) (p : List ℕ → Bool) where
-  pub text-other : (b ≡ 34 → ⊥) → false ≡ text p (treeAt d s at)
-  text-other n = text-none p (treeAt d s at) (sym (string-kind d s at b e) ∙ ne-eqb b 34 n)
+  module _ {k : ℕ} (q : r ≡ At k) {d′ : ℕ} (z : d′ ≡ d) {i : ℕ} (g : i ≡ spanAt isSpace s k) {x : Bool} (u : x ≡ isNull (treeAt d′ s i)) where
+    one : isNullArray j ≡ oneNull (element (treeAt d′ s i) (elementsAfter d′ s k))
+    one = rw (e, q, ← z, elements-turn d′ s k, ← g)
 
-  pub text-is : b ≡ 34 → {r : Bool} → r ≡ p (bytesAt s (at + 1)) → r ≡ text p (treeAt d s at)
-  text-is q h = rw (tree-string d s at e q) h
+    not-null : (j : Json) (es : Elements) → isNull j ≡ false → false ≡ oneNull (element j es)
+    not-null j no-more n = sym n
+    not-null j (element k es) n = refl
 
-nulls-none : (j : Json) → isArray j ≡ false → false ≡ isNullArray j
-nulls-none null e = refl
-nulls-none (bool b) e = refl
-nulls-none (integer n) e = refl
-nulls-none real e = refl
-nulls-none (string b) e = refl
-nulls-none (array es) e = absurd (let z : _≡_ {A = ℕ} 0 1 = cc in omega arith)
-nulls-none (object ms) e = refl
+    pub nulls-not : not x ≡ true → false ≡ isNullArray j
+    nulls-not n = not-null (treeAt d′ s i) (elementsAfter d′ s k) (sym u ∙ not-true x n) ∙ sym one
 
-pub nulls-zero : (d : ℕ) (s : List ℕ) (at : ℕ) → d ≡ 0 → false ≡ isNullArray (treeAt d s at)
-unfolding treeAt
-nulls-zero d s at z =
-    rw z (tree-cases (λ (j : Json). false ≡ isNullArray j) s at (getD s at 0) (λ i. no-more) (λ i. nothing)
-    (λ q. refl) (λ q. refl) (λ q. refl) (λ q. refl) (λ q. refl) (λ q. refl) refl (λ q. num) (λ q. num))
-  where
-    num : false ≡ isNullArray (numberOf s at)
-    num = number-cases (λ (j : Json). false ≡ isNullArray j) s at (λ n. refl) refl
+    module _ (y : not x ≡ false) {m : Next} (v : m ≡ elementAt (valueAt d′ s) s k) where
+      pub nulls-done : {l : ℕ} → m ≡ Done l → true ≡ isNullArray j
+      nulls-done w = sym (one ∙ rw (element-after-done d′ s k v w) (sym u ∙ not-false x y))
 
-module _ (d : ℕ) (s : List ℕ) (at b : ℕ) (e : b ≡ getD s at 0) where
-  pub nulls-other : (b ≡ 91 → ⊥) → false ≡ isNullArray (treeAt d s at)
-  nulls-other n = nulls-none (treeAt d s at) (sym (array-kind d s at b e) ∙ ne-eqb b 91 n)
+      pub nulls-wrong : {l : ℕ} → m ≡ Wrong l → true ≡ isNullArray j
+      nulls-wrong w = sym (one ∙ rw (element-after-wrong d′ s k v w) (sym u ∙ not-false x y))
 
-  module _ (f : d ≡ 0 → ⊥) (q : b ≡ 91) {r : Read} (t : r ≡ tokenAt 93 s (at + 1)) where
-    pub nulls-empty : {k : ℕ} → r ≡ End k → false ≡ isNullArray (treeAt d s at)
-    nulls-empty h = rw (tree-array d s at f e q, in-none (d - 1) s (at + 1) t h)
-
-    module _ {k : ℕ} (h : r ≡ Bad k) {i : ℕ} (g : i ≡ spanAt isSpace s (at + 1)) {x : Bool} (u : x ≡ isNull (treeAt (d - 1) s i)) where
-      one : isNullArray (treeAt d s at) ≡ isNullArray (array (element (treeAt (d - 1) s i) (elementsAfter (d - 1) s (at + 1))))
-      one = rw (tree-array d s at f e q, in-some (d - 1) s (at + 1) t h, elements-turn (d - 1) s (at + 1), ← g)
-
-      not-null : (j : Json) (es : Elements) → isNull j ≡ false → false ≡ isNullArray (array (element j es))
-      not-null j no-more n = sym n
-      not-null j (element k es) n = refl
-
-      pub nulls-not : not x ≡ true → false ≡ isNullArray (treeAt d s at)
-      nulls-not n = not-null (treeAt (d - 1) s i) (elementsAfter (d - 1) s (at + 1)) (sym u ∙ not-true x n) ∙ sym one
-
-      module _ (y : not x ≡ false) {m : Next} (v : m ≡ elementAt (valueAt (d - 1) s) s (at + 1)) where
-        pub nulls-done : {l : ℕ} → m ≡ Done l → true ≡ isNullArray (treeAt d s at)
-        nulls-done w = sym (one ∙ rw (element-after-done (d - 1) s (at + 1) v w) (sym u ∙ not-false x y))
-
-        pub nulls-wrong : {l : ℕ} → m ≡ Wrong l → true ≡ isNullArray (treeAt d s at)
-        nulls-wrong w = sym (one ∙ rw (element-after-wrong (d - 1) s (at + 1) v w) (sym u ∙ not-false x y))
-
-        pub nulls-more : {l : ℕ} → m ≡ More l → false ≡ isNullArray (treeAt d s at)
-        nulls-more {l} w = sym (one ∙ rw (element-after-more (d - 1) s (at + 1) v w, elements-turn (d - 1) s l))
+      pub nulls-more : {l : ℕ} → m ≡ More l → false ≡ isNullArray j
+      nulls-more {l} w = sym (one ∙ rw (element-after-more d′ s k v w, elements-turn d′ s l))
 
 -- ## what is asked
 module _ (a : Asked) (d : ℕ) (s : List ℕ) (at : ℕ) {r : Bool} where
@@ -190,14 +149,6 @@ module _ (f : Form) (b : List ℕ) {r : Bool} where
 
   pub form-initiator : f ≡ Initiator → r ≡ isAmong b initiators → r ≡ spelt f b
   form-initiator q h = rw q h
-
--- nothing is looked up in a value of no depth
-module _ (w : List ℕ) (d : ℕ) (s : List ℕ) (at : ℕ) (z : d ≡ 0) (f : Json → Bool) where
-  pub must-zero : false ≡ must (lookup w (treeAt d s at)) f
-  must-zero = rw (member-zero w d s at z)
-
-  pub may-zero : true ≡ may (lookup w (treeAt d s at)) f
-  may-zero = rw (member-zero w d s at z)
 
 -- ## copying: n bytes of the string b are copied, and p has what is left
 pub record Copying (b before₀ s : List ℕ) (p : Piece) (n : ℕ) (buf : List ℕ) : Type 0 where
@@ -434,4 +385,4 @@ module _ (s : List ℕ) {i : ℕ} (g : i ≡ spanAt isSpace s 0) {r : Found} (e 
   unfolding outermostOk treeOf
   outermost-some q h = rw (← g, e, q) h
 
-pub ruleset asking = (needs, past-is, not-true, not-false, text-other, text-is, nulls-zero, nulls-other, nulls-empty, nulls-not, nulls-done, nulls-wrong, nulls-more, asked-text, asked-boolean, asked-nulls, asked-integer, asked-spelt, asked-nothing, form-url, form-network, form-forwarding, form-operator, form-initiator, must-zero, may-zero, must-none, must-some, may-none, may-some, header-version, header-url, header-update, header-supported, header-validity, outermost-none, outermost-some)
+pub ruleset asking = (needs, past-is, not-true, not-false, text-not, text-is, nulls-empty, nulls-not, nulls-done, nulls-wrong, nulls-more, asked-text, asked-boolean, asked-nulls, asked-integer, asked-spelt, asked-nothing, form-url, form-network, form-forwarding, form-operator, form-initiator, must-none, must-some, may-none, may-some, header-version, header-url, header-update, header-supported, header-validity, outermost-none, outermost-some)

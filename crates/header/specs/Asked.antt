@@ -1,7 +1,7 @@
 -- What the rules ask of the value of a member (document 01, 'The MUD rules').
 use Prim.Native.Nat.{ℕ}
 use mathlib.Core.List.{List, [], _∷_}
-use mathlib.Core.Bool.{Bool, true, false, _&&_, _||_, cond}
+use mathlib.Core.Bool.{Bool, false, _&&_, _||_, cond}
 use lib.ListN.{length}
 use lib.Dec.{eqb}
 use Rattle.text.specs.Ascii.{ascii}
@@ -10,7 +10,7 @@ use Rattle.text.specs.Networks.{networkAt}
 use Rattle.text.specs.declared.networks.Block.{Block}
 use Rattle.text.specs.declared.networks.Block.the-variants.{Net, NoNet}
 use Rattle.site.specs.Url.{isMudUrl}
-use Rattle.values.specs.Tree.{Json, null, bool, integer, real, string, array, object, Elements, no-more, element, isNull, isString, isBool, isObject, countOf}
+use Rattle.values.specs.Tree.{Json, Elements, no-more, element, items, isNull, isString, isBool, countOf}
 use Rattle.values.specs.Rules.{within, text}
 use Rattle.header.specs.declared.asked.Form.{Form}
 use Rattle.header.specs.declared.asked.Form.the-variants.{Url, Network, Forwarding, Operator, Initiator}
@@ -23,16 +23,13 @@ isAmong b [] = false
 isAmong b (w ∷ ws) = sameBytes b w || isAmong b ws
 
 -- `[null]`
+abbrev pub oneNull : Elements → Bool
+oneNull no-more = false
+oneNull (element j no-more) = isNull j
+oneNull (element j (element k es)) = false
+
 abbrev pub isNullArray : Json → Bool
-isNullArray null = false
-isNullArray (bool b) = false
-isNullArray (integer n) = false
-isNullArray real = false
-isNullArray (string b) = false
-isNullArray (array no-more) = false
-isNullArray (array (element j no-more)) = isNull j
-isNullArray (array (element j (element k es))) = false
-isNullArray (object ms) = false
+isNullArray j = oneNull (items j)
 
 -- a network with its length ("here `/n` is required"), and nothing after it
 abbrev pub wholeNet : List ℕ → Block → Bool

@@ -1,5 +1,5 @@
 -- Number 7 (document 01, 'The MUD rules'): "outermost value or header members".
-use mathlib.Core.Bool.{Bool, true, false, _&&_}
+use mathlib.Core.Bool.{Bool, _&&_}
 use Rattle.text.specs.Ascii.{ascii}
 use Rattle.values.specs.Tree.{Json, lookup}
 use Rattle.values.specs.Rules.{must, may}

@@ -1,13 +1,13 @@
 // What a member's value may be asked to be.
 use super::strings;
 use json::Next;
-use json::Read;
 use json::space::skip;
-use json::space::token;
 use text::bytes::byte_at;
 use text::networks::Block;
 use values::Found;
 use values::plain;
+use values::walk::first_item;
+use values::walk::inner;
 use values::walk::member;
 use values::walk::next_element;
 ghost use mathlib.Core.Path.{_≡_};
@@ -68,19 +68,14 @@ fn is_text(s: &[u8], at: usize, depth: usize, form: Form) -> bool
 fn is_null_array(s: &[u8], at: usize, depth: usize) -> bool
     ensures { λ r. ⌜ r ≡ isNullArray (treeAt depth (now (s .entry)) at) ⌝ }
 {
-    if depth == 0 {
+    let Found::At(j) = first_item(s, at, depth) else {
+        return false;
+    };
+    let d = inner(depth);
+    if !plain::is_null(s, skip(s, j), d) {
         return false;
     }
-    if byte_at(s, at) != b'[' {
-        return false;
-    }
-    if let Read::End(_) = token(s, at + 1, b']') {
-        return false;
-    }
-    if !plain::is_null(s, skip(s, at + 1), depth - 1) {
-        return false;
-    }
-    match next_element(s, at + 1, depth - 1) {
+    match next_element(s, j, d) {
         Next::Done(_) => true,
         Next::Wrong(_) => true,
         Next::More(_) => false,
@@ -107,12 +102,7 @@ pub fn must_be(s: &[u8], at: usize, depth: usize, name: &[u8], asked: Asked) -> 
 {
     match member(s, at, depth, name) {
         Found::Missing => false,
-        Found::At(p) => {
-            if depth == 0 {
-                return false;
-            }
-            obeys(s, p, depth - 1, asked)
-        }
+        Found::At(p) => obeys(s, p, inner(depth), asked),
     }
 }
 
@@ -122,11 +112,6 @@ pub fn may_be(s: &[u8], at: usize, depth: usize, name: &[u8], asked: Asked) -> b
 {
     match member(s, at, depth, name) {
         Found::Missing => true,
-        Found::At(p) => {
-            if depth == 0 {
-                return true;
-            }
-            obeys(s, p, depth - 1, asked)
-        }
+        Found::At(p) => obeys(s, p, inner(depth), asked),
     }
 }

@@ -39,8 +39,8 @@ fn run_file(name: &[u8]) {
     // one byte more than a file may have
     let mut file = [0u8; 32769];
     let n = load(name, &mut file);
-    // places for the names of the largest object that a file can have
-    let mut area = [0u32; 4704];
+    // places for as many names as can stand open at a time in a file
+    let mut area = [0u32; 4900];
     let number = answer(&file[..n], &mut area);
     io::write_all(STDOUT_FILENO, name);
     io::write_all(STDOUT_FILENO, b"\t");

@@ -1,42 +1,39 @@
 -- Laws of names, lists and policies.
-use Prim.Native.Nat.{ℕ, zero, suc, _+_, _-_, _≤_, _<_}
+use Prim.Native.Nat.{ℕ, suc, _+_, _-_, _≤_}
 use native.Mathlib.Omega.{arith}
-use mathlib.Core.Path.{_≡_, refl, sym, ap, _∙_}
-use mathlib.Core.List.{List, [], _∷_}
-use mathlib.Core.Bool.{Bool, true, false, not, _&&_, _||_, cond}
+use mathlib.Core.Path.{_≡_, refl, sym, _∙_}
+use mathlib.Core.List.{List, []}
+use mathlib.Core.Bool.{Bool, true, false, not, _&&_, _||_}
 use lib.ListN.{length, getD, List·getD-eq-default}
 use borrow.Author.Tests.{not-true, not-false, ne-eqb}
 use Rattle.text.specs.Ascii.{ascii}
 use Rattle.text.specs.Words.{sameBytes}
-use Rattle.text.proofs.Tests.{by-test, chained}
-use Rattle.json.specs.declared.Read.{Read}
-use Rattle.json.specs.declared.Read.the-variants.{End, Bad}
+use Rattle.text.proofs.Tests.{chained}
 use Rattle.json.specs.declared.Next.{Next}
 use Rattle.json.specs.declared.Next.the-variants.{Done, More, Wrong}
-use Rattle.json.specs.Reading.{isSpace, spanAt, tokenAt, elementAt, valueAt}
+use Rattle.json.specs.Reading.{isSpace, spanAt, elementAt, valueAt}
 use Rattle.json.proofs.Runs.{past-is}
 use Rattle.values.specs.declared.Found.{Found}
 use Rattle.values.specs.declared.Found.the-variants.{At, Missing}
 use Rattle.values.specs.Decode.{pieceAt, bytesAt}
-use Rattle.values.specs.Tree.{Json, null, bool, integer, real, string, array, object, Elements, no-more, element, treeAt, treeOf, lookup, seen, isString, isArray, Maybe, none, some}
-use Rattle.values.specs.Rules.{must, may, all, text, firstWith}
+use Rattle.values.specs.Tree.{Json, null, bool, integer, real, string, array, object, Elements, no-more, element, elementsFrom, elementsAfter, items, itemsFrom, treeAt, treeOf, lookup, seen, isString, none}
+use Rattle.values.specs.Rules.{must, all, text, firstWith}
 use Rattle.values.proofs.Decoding.{string-turn}
-use Rattle.values.proofs.Walking.{elementsFrom, elements-turn, element-after-done, element-after-wrong, element-after-more, element-less, tree-string, tree-array}
-use Rattle.values.proofs.Sorts.{string-kind, array-kind}
-use Rattle.values.proofs.Patterns.{in-none, in-some, must-none, must-some, may-none, may-some}
-use Rattle.header.specs.Asked.{isAmong, obeys}
+use Rattle.values.proofs.Trees.{tree-string}
+use Rattle.values.proofs.Walking.{elements-turn, element-after-done, element-after-wrong, element-after-more, element-less}
+use Rattle.values.proofs.Sorts.{string-kind}
+use Rattle.values.proofs.Patterns.{must-none, must-some, may-none, may-some, text-is, text-not}
+use Rattle.header.specs.Asked.{isAmong}
 use Rattle.flows.specs.declared.Direction.{Direction}
 use Rattle.flows.specs.declared.Direction.the-variants.{FromDevice, ToDevice}
-use Rattle.header.proofs.Laws.{text-other, text-is}
-use Rattle.lists.specs.Places.{elementsIn, elementsAfter, elementsSeen}
-use Rattle.lists.specs.Lists.{hasStringName, isNamed, nameOf, namesOf, allDifferent, namedArray, arrayIn, nestedOk, nested, policyName, policyOk, policyLists, listsOk, listsOf, hasType, listOk, listNamed, namedOk, directionOk, bothOk, policiesOk}
+use Rattle.lists.specs.Lists.{isNamed, bytesOf, nameOf, namesOf, allDifferent, nestedOk, nested, policyName, policyOk, policyLists, listsOk, listsOf, hasType, listOk, listNamed, namedOk, directionOk, bothOk, policiesOk}
 
 -- ## the name of an element
 bytes-end : (s : List ℕ) → bytesAt s (length s) ≡ []
 unfolding pieceAt
 bytes-end s = let h : length s ≤ length s = omega arith in string-turn s (length s) ∙ rw (List·getD-eq-default s 0 h)
 
-no-name : (j : Json) → isString j ≡ false → nameOf (some j) ≡ []
+no-name : (j : Json) → isString j ≡ false → bytesOf j ≡ []
 no-name null e = refl
 no-name (bool b) e = refl
 no-name (integer n) e = refl
@@ -81,13 +78,13 @@ module _ (d : ℕ) (s b : List ℕ) (j : ℕ) {t : Bool} (inv : t ≡ isAmong b 
     later-on y = rw y at later-now
 
 -- ## all names different
-module _ (d : ℕ) (s : List ℕ) (at : ℕ) {r : Read} (e : r ≡ tokenAt 93 s at) where
-  pub different-none : {k : ℕ} → r ≡ End k → true ≡ allDifferent (namesOf (elementsIn d s at))
+module _ (j : Json) (d : ℕ) (s : List ℕ) {r : Found} (e : items j ≡ itemsFrom d s r) where
+  pub different-none : r ≡ Missing → true ≡ allDifferent (namesOf (items j))
   unfolding namesOf allDifferent
-  different-none q = rw (in-none d s at e q)
+  different-none q = rw (e, q)
 
-  pub different-some : {k : ℕ} → r ≡ Bad k → allDifferent (namesOf (elementsIn d s at)) ≡ allDifferent (namesOf (elementsFrom d s at))
-  different-some q = ap (λ es. allDifferent (namesOf es)) (in-some d s at e q)
+  pub different-some : {k : ℕ} → r ≡ At k → {d′ : ℕ} → d′ ≡ d → allDifferent (namesOf (items j)) ≡ allDifferent (namesOf (elementsFrom d′ s k))
+  different-some q z = rw (e, q, z)
 
 module _ (d : ℕ) (s : List ℕ) (j : ℕ) {t : Bool} (inv : t ≡ allDifferent (namesOf (elementsFrom d s j))) {i : ℕ} (g : i ≡ spanAt isSpace s j) (m : ℕ) (h : bytesAt s m ≡ nameAt d s i) {r : Bool} (q : r ≡ isAmong (bytesAt s m) (namesOf (elementsAfter d s j))) where
   different-now : t ≡ (not r && allDifferent (namesOf (elementsAfter d s j)))
@@ -109,31 +106,7 @@ module _ (d : ℕ) (s : List ℕ) (j : ℕ) {t : Bool} (inv : t ≡ allDifferent
     pub different-on : {k : ℕ} → n ≡ More k → t ≡ allDifferent (namesOf (elementsFrom d s k))
     different-on u = rw (y, element-after-more d s j f u) at different-now
 
--- ## named arrays
-not-array : (j : Json) → isArray j ≡ false → false ≡ namedArray j
-not-array null e = refl
-not-array (bool b) e = refl
-not-array (integer n) e = refl
-not-array real e = refl
-not-array (string b) e = refl
-not-array (array es) e = absurd (let z : _≡_ {A = ℕ} 0 1 = cc in omega arith)
-not-array (object ms) e = refl
-
-module _ (d : ℕ) (s : List ℕ) (at b : ℕ) (e : b ≡ getD s at 0) where
-  pub named-other : (b ≡ 91 → ⊥) → false ≡ namedArray (treeAt d s at)
-  named-other n = not-array (treeAt d s at) (sym (array-kind d s at b e) ∙ ne-eqb b 91 n)
-
-  module _ (f : 0 < d) (q : b ≡ 91) {x : Bool} (g : x ≡ all hasStringName (elementsIn (d - 1) s (at + 1))) where
-    is-array : namedArray (treeAt d s at) ≡ (x && allDifferent (namesOf (elementsIn (d - 1) s (at + 1))))
-    is-array = let n : d ≡ 0 → ⊥ = λ (z : d ≡ 0). omega arith in rw (tree-array d s at n e q, ← g)
-
-    pub named-unnamed : not x ≡ true → false ≡ namedArray (treeAt d s at)
-    named-unnamed n = sym (is-array ∙ rw (not-true x n))
-
-    pub named-different : not x ≡ false → {r : Bool} → r ≡ allDifferent (namesOf (elementsIn (d - 1) s (at + 1))) → r ≡ namedArray (treeAt d s at)
-    named-different n h = sym (is-array ∙ rw (not-false x n) (sym h))
-
-pub ruleset naming = (chained, past-is, element-less, must-none, must-some, may-none, may-some, name-missing, name-string, name-other, later-done, later-wrong, later-found, later-on, different-none, different-some, different-not, different-done, different-wrong, different-on, named-other, named-unnamed, named-different)
+pub ruleset naming = (chained, past-is, element-less, must-none, must-some, may-none, may-some, name-missing, name-string, name-other, later-done, later-wrong, later-found, later-on, different-none, different-some, different-not, different-done, different-wrong, different-on)
 
 -- ## lists by name
 -- a member that must be a string
@@ -143,10 +116,10 @@ module _ (w : List ℕ) (d : ℕ) (s : List ℕ) (at : ℕ) {r : Found} (e : loo
 
   module _ {i : ℕ} (q : r ≡ At i) {b : ℕ} (f : b ≡ getD s i 0) where
     pub must-text-other : (b ≡ 34 → ⊥) → false ≡ must (lookup w (treeAt (suc d) s at)) (text p)
-    must-text-other n = rw (e, q) (text-other d s i b f p n)
+    must-text-other n = rw (e, q) (text-not p d s i b f n)
 
     pub must-text-is : b ≡ 34 → {x : Bool} → x ≡ p (bytesAt s (i + 1)) → x ≡ must (lookup w (treeAt (suc d) s at)) (text p)
-    must-text-is n h = rw (e, q) (text-is d s i b f p n h)
+    must-text-is n h = rw (e, q) (text-is p d s i b f n h)
 
 module _ (s : List ℕ) (at i : ℕ) {r : Found} (e : lookup (ascii "name") (treeAt 13 s at) ≡ seen (treeAt 12 s) r) where
   pub is-named-none : r ≡ Missing → false ≡ isNamed (bytesAt s i) (treeAt 13 s at)
@@ -178,11 +151,11 @@ module _ (s : List ℕ) (at : ℕ) (t : List ℕ) {r : Found} (e : lookup (ascii
 
 -- the list that is named
 module _ (s : List ℕ) (l : Found) (n : ℕ) where
-  pub list-none : l ≡ Missing → listNamed (elementsSeen 13 s l) (treeAt 11 s n) ≡ none
+  pub list-none : l ≡ Missing → listNamed (itemsFrom 13 s l) (treeAt 11 s n) ≡ none
   unfolding listNamed firstWith
   list-none q = rw q
 
-  pub list-some : {at : ℕ} → l ≡ At at → (i : ℕ) → bytesAt s i ≡ nameAt 11 s n → (r : Found) → firstWith (isNamed (bytesAt s i)) (elementsIn 13 s at) ≡ seen (treeAt 13 s) r → listNamed (elementsSeen 13 s l) (treeAt 11 s n) ≡ seen (treeAt 13 s) r
+  pub list-some : {at : ℕ} → l ≡ At at → (i : ℕ) → bytesAt s i ≡ nameAt 11 s n → (r : Found) → firstWith (isNamed (bytesAt s i)) (elementsFrom 13 s at) ≡ seen (treeAt 13 s) r → listNamed (itemsFrom 13 s l) (treeAt 11 s n) ≡ seen (treeAt 13 s) r
   unfolding listNamed
   list-some q i h r f = rw (q, ← h) f
 
@@ -205,36 +178,19 @@ module _ (j : Json) {a : Bool} (e : a ≡ hasType (ascii "ipv4-acl-type") j) {r 
   list-ipv6 n h = rw (← e, n) h
 
 -- ## nested arrays
-no-elements : (j : Json) → isArray j ≡ false → arrayIn (some j) ≡ no-more
-no-elements null e = refl
-no-elements (bool b) e = refl
-no-elements (integer n) e = refl
-no-elements real e = refl
-no-elements (string b) e = refl
-no-elements (array es) e = absurd (let z : _≡_ {A = ℕ} 0 1 = cc in omega arith)
-no-elements (object ms) e = refl
-
-module _ (o i : List ℕ) (d : ℕ) (s : List ℕ) (at : ℕ) {r : Found} (e : lookup o (treeAt d s at) ≡ seen (treeAt (d - 1) s) r) where
-  pub nested-outer : r ≡ Missing → nested o i (treeAt d s at) ≡ no-more
+module _ (o n : List ℕ) (d : ℕ) (s : List ℕ) (at : ℕ) {r : Found} (e : lookup o (treeAt d s at) ≡ seen (treeAt (d - 1) s) r) where
+  pub nested-outer : r ≡ Missing → nested o n (treeAt d s at) ≡ no-more
   unfolding nested
   nested-outer q = rw (e, q)
 
-  module _ {p : ℕ} (q : r ≡ At p) {t : Found} (f : lookup i (treeAt (d - 1) s p) ≡ seen (treeAt (d - 1 - 1) s) t) where
-    pub nested-inner : t ≡ Missing → nested o i (treeAt d s at) ≡ no-more
+  module _ {p : ℕ} (q : r ≡ At p) {d′ : ℕ} (z : d′ ≡ d - 1) {t : Found} (f : lookup n (treeAt d′ s p) ≡ seen (treeAt (d′ - 1) s) t) where
+    pub nested-inner : t ≡ Missing → nested o n (treeAt d s at) ≡ no-more
     unfolding nested
-    nested-inner u = rw (e, q, f, u)
+    nested-inner u = rw (e, q, ← z, f, u)
 
-    module _ {k : ℕ} (u : t ≡ At k) {b : ℕ} (g : b ≡ getD s k 0) where
-      pub nested-other : (b ≡ 91 → ⊥) → nested o i (treeAt d s at) ≡ no-more
-      unfolding nested
-      nested-other n = rw (e, q, f, u) (no-elements (treeAt (d - 1 - 1) s k) (sym (array-kind (d - 1 - 1) s k b g) ∙ ne-eqb b 91 n))
-
-      pub nested-array : 3 ≤ d → b ≡ 91 → nested o i (treeAt d s at) ≡ elementsIn (d - 3) s (k + 1)
-      unfolding nested
-      nested-array l n =
-          let z : d - 1 - 1 ≡ 0 → ⊥ = λ (z : d - 1 - 1 ≡ 0). omega arith in
-          let m : d - 1 - 1 - 1 ≡ d - 3 = omega arith in
-          rw (e, q, f, u, tree-array (d - 1 - 1) s k z g n, m)
+    pub nested-items : {k : ℕ} → t ≡ At k → {d″ : ℕ} → d″ ≡ d′ - 1 → (x : Found) → items (treeAt d″ s k) ≡ itemsFrom (d″ - 1) s x → nested o n (treeAt d s at) ≡ itemsFrom (d - 1 - 1 - 1) s x
+    unfolding nested
+    nested-items u y x h = rw (e, q, ← z, f, u, ← y) h
 
 -- ## policies
 module _ (d : Direction) (s : List ℕ) (mud : ℕ) (r : Found) where
@@ -251,7 +207,7 @@ module _ (d : Direction) (s : List ℕ) (mud : ℕ) (r : Found) where
     unfolding policyLists
     policy-none q = rw (e, q)
 
-    pub policy-some : {p : ℕ} → r ≡ At p → (t : Found) → nested (ascii "access-lists") (ascii "access-list") (treeAt 14 s p) ≡ elementsSeen 11 s t → policyLists d (treeAt 15 s mud) ≡ elementsSeen 11 s t
+    pub policy-some : {p : ℕ} → r ≡ At p → (t : Found) → nested (ascii "access-lists") (ascii "access-list") (treeAt 14 s p) ≡ itemsFrom 11 s t → policyLists d (treeAt 15 s mud) ≡ itemsFrom 11 s t
     unfolding policyLists
     policy-some q t h = rw (e, q) h
 
@@ -260,12 +216,12 @@ module _ (d : Direction) (s : List ℕ) (file mud : ℕ) {a : Bool} (e : a ≡ p
   unfolding directionOk
   direction-policy n = rw (← e, not-true a n)
 
-  module _ (y : not a ≡ false) {r : Found} (f : policyLists d (treeAt 15 s mud) ≡ elementsSeen 11 s r) where
+  module _ (y : not a ≡ false) {r : Found} (f : policyLists d (treeAt 15 s mud) ≡ itemsFrom 11 s r) where
     pub direction-none : r ≡ Missing → true ≡ directionOk d (treeAt 16 s file) (treeAt 15 s mud)
     unfolding directionOk all
     direction-none q = rw (← e, not-false a y, f, q)
 
-    pub direction-some : {p : ℕ} → r ≡ At p → (l : Found) → listsOf (treeAt 16 s file) ≡ elementsSeen 13 s l → {b : Bool} → b ≡ all (namedOk (elementsSeen 13 s l)) (elementsIn 11 s p) → b ≡ directionOk d (treeAt 16 s file) (treeAt 15 s mud)
+    pub direction-some : {p : ℕ} → r ≡ At p → (l : Found) → listsOf (treeAt 16 s file) ≡ itemsFrom 13 s l → {b : Bool} → b ≡ all (namedOk (itemsFrom 13 s l)) (elementsFrom 11 s p) → b ≡ directionOk d (treeAt 16 s file) (treeAt 15 s mud)
     unfolding directionOk
     direction-some q l g h = rw (← e, not-false a y, f, q, g) h
 
@@ -283,4 +239,4 @@ module _ (s : List ℕ) {i : ℕ} (g : i ≡ spanAt isSpace s 0) {a : Bool} (e :
     unfolding policiesOk treeOf listsOk
     policies-some q h = rw (← g, ← e, not-false a y, f, q) h
 
-pub ruleset listing = (chained, past-is, may-none, may-some, is-named-none, is-named-other, is-named-is, type-none, type-other, type-is, list-none, list-some, lists-none, lists-some, list-ipv4, list-ipv6, nested-outer, nested-inner, nested-other, nested-array, policy-from, policy-to, policy-none, policy-some, direction-policy, direction-none, direction-some, policies-lists, policies-none, policies-some)
+pub ruleset listing = (chained, past-is, may-none, may-some, is-named-none, is-named-other, is-named-is, type-none, type-other, type-is, list-none, list-some, lists-none, lists-some, list-ipv4, list-ipv6, nested-outer, nested-inner, nested-items, policy-from, policy-to, policy-none, policy-some, direction-policy, direction-none, direction-some, policies-lists, policies-none, policies-some)

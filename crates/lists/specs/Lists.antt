@@ -1,12 +1,12 @@
 -- Number 8 (document 01, 'The MUD rules'): "policies, lists, types, names".
 use Prim.Native.Nat.{ℕ}
 use mathlib.Core.List.{List, [], _∷_, _++_}
-use mathlib.Core.Bool.{Bool, true, false, not, _&&_, cond}
+use mathlib.Core.Bool.{Bool, true, not, _&&_, cond}
 use Rattle.text.specs.Ascii.{ascii}
 use Rattle.text.specs.Words.{sameBytes}
 use Rattle.flows.specs.declared.Direction.{Direction}
 use Rattle.flows.specs.declared.Direction.the-variants.{FromDevice, ToDevice}
-use Rattle.values.specs.Tree.{Json, null, bool, integer, real, string, array, object, Elements, no-more, element, Maybe, none, some, lookup, isObject}
+use Rattle.values.specs.Tree.{Json, null, bool, integer, real, string, array, object, Elements, no-more, element, items, Maybe, none, some, lookup, isArray, isObject}
 use Rattle.values.specs.Rules.{must, may, text, all, firstWith}
 use Rattle.header.specs.Asked.{isAmong, obeys}
 use Rattle.header.specs.declared.asked.Asked.the-variants.{Text}
@@ -19,16 +19,19 @@ hasStringName j = must (lookup (ascii "name") j) (obeys Text)
 unfoldable pub isNamed : List ℕ → Json → Bool
 isNamed name j = must (lookup (ascii "name") j) (text (λ b. sameBytes b name))
 
--- no later element has the name of an earlier one
+-- the bytes of a string; nothing else has any
+abbrev pub bytesOf : Json → List ℕ
+bytesOf null = []
+bytesOf (bool b) = []
+bytesOf (integer n) = []
+bytesOf real = []
+bytesOf (string b) = b
+bytesOf (array es) = []
+bytesOf (object ms) = []
+
 abbrev pub nameOf : Maybe → List ℕ
 nameOf none = []
-nameOf (some null) = []
-nameOf (some (bool b)) = []
-nameOf (some (integer n)) = []
-nameOf (some real) = []
-nameOf (some (string b)) = b
-nameOf (some (array es)) = []
-nameOf (some (object ms)) = []
+nameOf (some j) = bytesOf j
 
 unfoldable pub namesOf : Elements → List (List ℕ)
 namesOf no-more = []
@@ -40,25 +43,13 @@ allDifferent [] = true
 allDifferent (n ∷ ns) = not (isAmong n ns) && allDifferent ns
 
 -- "array of objects with a string `name`, no name twice"
-abbrev pub namedArray : Json → Bool
-namedArray null = false
-namedArray (bool b) = false
-namedArray (integer n) = false
-namedArray real = false
-namedArray (string b) = false
-namedArray (array es) = all hasStringName es && allDifferent (namesOf es)
-namedArray (object ms) = false
+unfoldable pub namedArray : Json → Bool
+namedArray j = isArray j && (all hasStringName (items j) && allDifferent (namesOf (items j)))
 
--- an array's elements, and what stands at a path of two members, if anything does
-abbrev pub arrayIn : Maybe → Elements
-arrayIn none = no-more
-arrayIn (some null) = no-more
-arrayIn (some (bool b)) = no-more
-arrayIn (some (integer n)) = no-more
-arrayIn (some real) = no-more
-arrayIn (some (string b)) = no-more
-arrayIn (some (array es)) = es
-arrayIn (some (object ms)) = no-more
+-- the elements of an array that may be missing, and what stands at a path of two members
+abbrev pub itemsIn : Maybe → Elements
+itemsIn none = no-more
+itemsIn (some j) = items j
 
 abbrev pub then : Maybe → (Json → Maybe) → Maybe
 then none f = none
@@ -72,7 +63,7 @@ unfoldable pub nestedOk : List ℕ → List ℕ → Json → Bool
 nestedOk outer inner j = may (lookup outer j) (innerOk inner)
 
 unfoldable pub nested : List ℕ → List ℕ → Json → Elements
-nested outer inner j = arrayIn (then (lookup outer j) (lookup inner))
+nested outer inner j = itemsIn (then (lookup outer j) (lookup inner))
 
 -- ## policies
 unfoldable pub policyName : Direction → List ℕ

@@ -2,22 +2,21 @@
 use super::names::is_nested;
 use super::names::name_of;
 use json::Next;
-use json::Read;
 use json::space::skip;
-use json::space::token;
 use text::bytes::byte_at;
 use values::Found;
 use values::strings::same_string;
 use values::strings::string_is;
+use values::walk::first_item;
+use values::walk::inner;
 use values::walk::member;
 use values::walk::next_element;
 ghost use mathlib.Core.Path.{_≡_};
-ghost use Prim.Native.Nat.{_-_, _≤_};
+ghost use Prim.Native.Nat.{_-_};
 ghost use Rattle.values.specs.Decode.{bytesAt};
-ghost use Rattle.values.specs.Tree.{treeAt, seen};
+ghost use Rattle.values.specs.Tree.{treeAt, seen, elementsFrom, itemsFrom};
 ghost use Rattle.values.specs.Rules.{firstWith};
-ghost use Rattle.lists.specs.Places.{elementsIn, elementsSeen};
-ghost use Rattle.lists.specs.Lists.{isNamed, arrayIn, nested, hasType, listOk, listNamed, namedOk};
+ghost use Rattle.lists.specs.Lists.{isNamed, nested, hasType, listOk, listNamed, namedOk};
 
 // Whether the element at a place has the name whose first character stands at `i`.
 fn is_named(s: &[u8], at: usize, i: usize) -> bool
@@ -32,13 +31,10 @@ fn is_named(s: &[u8], at: usize, i: usize) -> bool
     same_string(s, p + 1, i)
 }
 
-// The first of the lists after the bracket that has the name.
+// The first of the lists from a place on that has the name.
 fn first_named(s: &[u8], at: usize, i: usize) -> Found
-    ensures { λ r. ⌜ firstWith (isNamed (bytesAt (now (s .entry)) i)) (elementsIn 13 (now (s .entry)) at) ≡ seen (treeAt 13 (now (s .entry))) r ⌝ }
+    ensures { λ r. ⌜ firstWith (isNamed (bytesAt (now (s .entry)) i)) (elementsFrom 13 (now (s .entry)) at) ≡ seen (treeAt 13 (now (s .entry))) r ⌝ }
 {
-    if let Read::End(_) = token(s, at, b']') {
-        return Found::Missing;
-    }
     let mut j = at;
     loop {
         let k = skip(s, j);
@@ -61,7 +57,7 @@ fn first_named(s: &[u8], at: usize, i: usize) -> Found
 
 // The list that an element of a policy names.
 pub fn list_of(s: &[u8], lists: Found, n: usize) -> Found
-    ensures { λ r. ⌜ listNamed (elementsSeen 13 (now (s .entry)) lists) (treeAt 11 (now (s .entry)) n) ≡ seen (treeAt 13 (now (s .entry))) r ⌝ }
+    ensures { λ r. ⌜ listNamed (itemsFrom 13 (now (s .entry)) lists) (treeAt 11 (now (s .entry)) n) ≡ seen (treeAt 13 (now (s .entry))) r ⌝ }
 {
     match lists {
         Found::Missing => Found::Missing,
@@ -69,21 +65,18 @@ pub fn list_of(s: &[u8], lists: Found, n: usize) -> Found
     }
 }
 
-// The elements of the array `inner` in the object `outer`, if there are any: where the first begins.
-pub fn nested_at(s: &[u8], at: usize, depth: usize, outer: &[u8], inner: &[u8]) -> Found
-    requires { ⌜ 3 ≤ depth ⌝ }
-    ensures { λ r. ⌜ nested (now (outer .entry)) (now (inner .entry)) (treeAt depth (now (s .entry)) at) ≡ elementsSeen (depth - 3) (now (s .entry)) r ⌝ }
+// The elements of the array `name` in the object `outer`, if there are any: where the first begins.
+pub fn nested_at(s: &[u8], at: usize, depth: usize, outer: &[u8], name: &[u8]) -> Found
+    ensures { λ r. ⌜ nested (now (outer .entry)) (now (name .entry)) (treeAt depth (now (s .entry)) at) ≡ itemsFrom (depth - 1 - 1 - 1) (now (s .entry)) r ⌝ }
 {
     let Found::At(o) = member(s, at, depth, outer) else {
         return Found::Missing;
     };
-    let Found::At(p) = member(s, o, depth - 1, inner) else {
+    let d = inner(depth);
+    let Found::At(p) = member(s, o, d, name) else {
         return Found::Missing;
     };
-    if byte_at(s, p) != b'[' {
-        return Found::Missing;
-    }
-    Found::At(p + 1)
+    first_item(s, p, inner(d))
 }
 
 pub fn has_type(s: &[u8], at: usize, kind: &[u8]) -> bool
@@ -109,7 +102,7 @@ fn is_list(s: &[u8], at: usize) -> bool
 
 // Whether an element of a policy names a list that there is, and that is one.
 pub fn names_list(s: &[u8], lists: Found, n: usize) -> bool
-    ensures { λ r. ⌜ r ≡ namedOk (elementsSeen 13 (now (s .entry)) lists) (treeAt 11 (now (s .entry)) n) ⌝ }
+    ensures { λ r. ⌜ r ≡ namedOk (itemsFrom 13 (now (s .entry)) lists) (treeAt 11 (now (s .entry)) n) ⌝ }
 {
     match list_of(s, lists, n) {
         Found::Missing => false,

@@ -2,23 +2,21 @@
 use header::asked::Asked;
 use header::asked::must_be;
 use json::Next;
-use json::Read;
 use json::space::skip;
-use json::space::token;
 use text::bytes::byte_at;
 use values::Found;
 use values::plain;
 use values::strings::same_string;
+use values::walk::first_item;
+use values::walk::inner;
 use values::walk::member;
 use values::walk::next_element;
 ghost use mathlib.Core.Path.{_≡_};
-ghost use Prim.Native.Nat.{_<_};
 ghost use Rattle.text.specs.Ascii.{ascii};
 ghost use Rattle.values.specs.Decode.{bytesAt};
-ghost use Rattle.values.specs.Tree.{treeAt, lookup};
-ghost use Rattle.values.specs.Rules.{all, may};
+ghost use Rattle.values.specs.Tree.{treeAt, lookup, items, elementsAfter};
+ghost use Rattle.values.specs.Rules.{all};
 ghost use Rattle.header.specs.Asked.{isAmong};
-ghost use Rattle.lists.specs.Places.{elementsIn, elementsAfter};
 ghost use Rattle.lists.specs.Lists.{hasStringName, nameOf, namesOf, allDifferent, namedArray, innerOk, nestedOk};
 
 // The first character of an element's name; the end of the text, where nothing stands, if it has none.
@@ -58,17 +56,18 @@ fn is_later(s: &[u8], at: usize, depth: usize, i: usize) -> bool
 }
 
 fn all_different(s: &[u8], at: usize, depth: usize) -> bool
-    ensures { λ r. ⌜ r ≡ allDifferent (namesOf (elementsIn depth (now (s .entry)) at)) ⌝ }
+    ensures { λ r. ⌜ r ≡ allDifferent (namesOf (items (treeAt depth (now (s .entry)) at))) ⌝ }
 {
-    if let Read::End(_) = token(s, at, b']') {
+    let Found::At(first) = first_item(s, at, depth) else {
         return true;
-    }
-    let mut j = at;
+    };
+    let d = inner(depth);
+    let mut j = first;
     loop {
-        if is_later(s, j, depth, name_of(s, skip(s, j), depth)) {
+        if is_later(s, j, d, name_of(s, skip(s, j), d)) {
             return false;
         }
-        match next_element(s, j, depth) {
+        match next_element(s, j, d) {
             Next::Done(_) => {
                 return true;
             }
@@ -89,17 +88,18 @@ fn has_name(s: &[u8], at: usize, depth: usize) -> bool
 }
 
 fn all_have_names(s: &[u8], at: usize, depth: usize) -> bool
-    ensures { λ r. ⌜ r ≡ all hasStringName (elementsIn depth (now (s .entry)) at) ⌝ }
+    ensures { λ r. ⌜ r ≡ all hasStringName (items (treeAt depth (now (s .entry)) at)) ⌝ }
 {
-    if let Read::End(_) = token(s, at, b']') {
+    let Found::At(first) = first_item(s, at, depth) else {
         return true;
-    }
-    let mut j = at;
+    };
+    let d = inner(depth);
+    let mut j = first;
     loop {
-        if !has_name(s, skip(s, j), depth) {
+        if !has_name(s, skip(s, j), d) {
             return false;
         }
-        match next_element(s, j, depth) {
+        match next_element(s, j, d) {
             Next::Done(_) => {
                 return true;
             }
@@ -115,38 +115,35 @@ fn all_have_names(s: &[u8], at: usize, depth: usize) -> bool
 
 // An array of objects, each with a string as its name, no name twice.
 fn is_named_array(s: &[u8], at: usize, depth: usize) -> bool
-    requires { ⌜ 0 < depth ⌝ }
     ensures { λ r. ⌜ r ≡ namedArray (treeAt depth (now (s .entry)) at) ⌝ }
 {
-    if byte_at(s, at) != b'[' {
+    if !plain::is_array(s, at, depth) {
         return false;
     }
-    if !all_have_names(s, at + 1, depth - 1) {
+    if !all_have_names(s, at, depth) {
         return false;
     }
-    all_different(s, at + 1, depth - 1)
+    all_different(s, at, depth)
 }
 
-fn is_inner(s: &[u8], at: usize, depth: usize, inner: &[u8]) -> bool
-    requires { ⌜ 1 < depth ⌝ }
-    ensures { λ r. ⌜ r ≡ innerOk (now (inner .entry)) (treeAt depth (now (s .entry)) at) ⌝ }
+fn is_inner(s: &[u8], at: usize, depth: usize, name: &[u8]) -> bool
+    ensures { λ r. ⌜ r ≡ innerOk (now (name .entry)) (treeAt depth (now (s .entry)) at) ⌝ }
 {
     if !plain::is_object(s, at, depth) {
         return false;
     }
-    match member(s, at, depth, inner) {
+    match member(s, at, depth, name) {
         Found::Missing => true,
-        Found::At(p) => is_named_array(s, p, depth - 1),
+        Found::At(p) => is_named_array(s, p, inner(depth)),
     }
 }
 
-// An object that may have a member `outer`, which is an object that may have a member `inner`, a named array.
-pub fn is_nested(s: &[u8], at: usize, depth: usize, outer: &[u8], inner: &[u8]) -> bool
-    requires { ⌜ 2 < depth ⌝ }
-    ensures { λ r. ⌜ r ≡ nestedOk (now (outer .entry)) (now (inner .entry)) (treeAt depth (now (s .entry)) at) ⌝ }
+// An object that may have a member `outer`, which is an object that may have a member `name`, a named array.
+pub fn is_nested(s: &[u8], at: usize, depth: usize, outer: &[u8], name: &[u8]) -> bool
+    ensures { λ r. ⌜ r ≡ nestedOk (now (outer .entry)) (now (name .entry)) (treeAt depth (now (s .entry)) at) ⌝ }
 {
     match member(s, at, depth, outer) {
         Found::Missing => true,
-        Found::At(p) => is_inner(s, p, depth - 1, inner),
+        Found::At(p) => is_inner(s, p, inner(depth), name),
     }
 }

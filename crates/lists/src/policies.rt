@@ -4,17 +4,14 @@ use super::named::nested_at;
 use super::names::is_nested;
 use flows::Direction;
 use json::Next;
-use json::Read;
 use json::space::skip;
-use json::space::token;
 use values::Found;
 use values::plain;
 use values::walk::member;
 use values::walk::next_element;
 ghost use mathlib.Core.Path.{_≡_};
-ghost use Rattle.values.specs.Tree.{treeAt, treeOf, lookup, seen};
+ghost use Rattle.values.specs.Tree.{treeAt, treeOf, lookup, seen, elementsFrom, itemsFrom};
 ghost use Rattle.values.specs.Rules.{all};
-ghost use Rattle.lists.specs.Places.{elementsIn, elementsSeen};
 ghost use Rattle.lists.specs.Lists.{policyName, policyShape, policyOk, policyLists, listsOf, namedOk, directionOk, bothOk, policiesOk};
 
 pub fn policy_of(s: &[u8], mud: usize, d: Direction) -> Found
@@ -46,7 +43,7 @@ fn may_be_policy(s: &[u8], mud: usize, d: Direction) -> bool
 
 // The elements of a policy's array, each of which names a list.
 pub fn policy_lists(s: &[u8], mud: usize, d: Direction) -> Found
-    ensures { λ r. ⌜ policyLists d (treeAt 15 (now (s .entry)) mud) ≡ elementsSeen 11 (now (s .entry)) r ⌝ }
+    ensures { λ r. ⌜ policyLists d (treeAt 15 (now (s .entry)) mud) ≡ itemsFrom 11 (now (s .entry)) r ⌝ }
 {
     match policy_of(s, mud, d) {
         Found::Missing => Found::Missing,
@@ -56,17 +53,14 @@ pub fn policy_lists(s: &[u8], mud: usize, d: Direction) -> Found
 
 // The lists of the file, by the place of its outermost value.
 pub fn lists_of(s: &[u8], at: usize) -> Found
-    ensures { λ r. ⌜ listsOf (treeAt 16 (now (s .entry)) at) ≡ elementsSeen 13 (now (s .entry)) r ⌝ }
+    ensures { λ r. ⌜ listsOf (treeAt 16 (now (s .entry)) at) ≡ itemsFrom 13 (now (s .entry)) r ⌝ }
 {
     nested_at(s, at, 16, b"ietf-access-control-list:acls", b"acl")
 }
 
 fn all_name_lists(s: &[u8], at: usize, lists: Found) -> bool
-    ensures { λ r. ⌜ r ≡ all (namedOk (elementsSeen 13 (now (s .entry)) lists)) (elementsIn 11 (now (s .entry)) at) ⌝ }
+    ensures { λ r. ⌜ r ≡ all (namedOk (itemsFrom 13 (now (s .entry)) lists)) (elementsFrom 11 (now (s .entry)) at) ⌝ }
 {
-    if let Read::End(_) = token(s, at, b']') {
-        return true;
-    }
     let mut j = at;
     loop {
         if !names_list(s, lists, skip(s, j)) {

@@ -1,24 +1,24 @@
 -- Laws of the site table's definitions, for the readers of its lines.
-use Prim.Native.Nat.{ℕ, zero, suc, _+_, _-_, _≤_, _<_}
+use Prim.Native.Nat.{ℕ, suc, _+_, _-_, _≤_, _<_}
 use native.Mathlib.Nat.{add-zero, add-comm, zero-add}
 use native.Mathlib.Numerals.{add-one}
 use native.Mathlib.Omega.{arith}
 use mathlib.Core.Path.{_≡_, refl, sym, ap, _∙_, subst}
-use mathlib.Core.Bool.{Bool, true, false, not, _&&_, _||_, cond, or-true}
+use mathlib.Core.Bool.{Bool, true, false, not, cond}
 use mathlib.Core.List.{List, [], _∷_}
 use lib.ListN.{length, drop, getD, drop-of-length-le, length-drop}
 use lib.Seq.{drop-cons}
-use lib.Dec.{leb, ltb, eqb}
+use lib.Dec.{ltb, eqb}
 use borrow.Author.Needs.{needs}
 use borrow.Author.Tests.{eq-eqb, ne-eqb, not-true, not-false, lt-ltb, le-ltb, lt-leb, le-leb}
 use Rattle.text.specs.Bytes.{between, isAt}
 use Rattle.text.specs.Ascii.{ascii}
-use Rattle.text.specs.Words.{starts, hasAt, sameBytes}
-use Rattle.text.specs.Walk.{Item, item, no-item}
+use Rattle.text.specs.Words.{hasAt, sameBytes}
+use Rattle.text.specs.Walk.{item}
 use Rattle.text.proofs.Walk.{Onward, walk-turn, walk-end}
 use Rattle.text.proofs.NetworkLaws.{SoundNet, network-sound}
 use Rattle.text.proofs.Tests.{by-test, cond-cases, and-right}
-use Rattle.text.proofs.ByteLaws.{at-inside}
+use Rattle.text.proofs.ByteLaws.{at-inside, at-is}
 use Rattle.site.specs.Url.{printable, endsAuthority, untilEnd, authorityOf, isMudUrl}
 use Rattle.text.specs.Networks.{networkAt}
 use Rattle.text.specs.declared.networks.Block.{Block}
@@ -169,7 +169,7 @@ module _ (s : List ℕ) (at i : ℕ) (e : at + nameLength (drop at s) ≡ i + na
 pub feeds-all : (s : List ℕ) (n i : ℕ) → i ≤ 0 → n ≡ lineFeeds (drop i s) → n ≡ lineFeeds s
 feeds-all s n i h e = let z : i ≡ 0 = omega arith in e ∙ ap (λ x. lineFeeds (drop x s)) z
 
-feeds-at : (s : List ℕ) (j : ℕ) → j < length s → lineFeeds (drop j s) ≡ cond (eqb (getD s j 0) 0x0A) 1 0 + lineFeeds (drop (suc j) s)
+pub feeds-at : (s : List ℕ) (j : ℕ) → j < length s → lineFeeds (drop j s) ≡ cond (eqb (getD s j 0) 0x0A) 1 0 + lineFeeds (drop (suc j) s)
 unfolding lineFeeds
 feeds-at s j h = rw (drop-cons s j 0 h)
 
@@ -257,18 +257,23 @@ name-ends-in s at r h kind from n end e =
     let k : from ≤ length s = (subst (SoundKind s at) (sym h ∙ n) (kind-sound s at)) .1 in
     omega (arith, name-in (drop from s), length-drop from s)
 
--- a line lies behind its start, within the text
+-- a line lies behind its start, within the text; so does its name; its network's ends are addresses; and its last byte is an LF
 abbrev pub SoundLine : List ℕ → ℕ → Found → Type 0
 SoundLine s at Malformed = Unit {0}
-SoundLine s at (Line l) = (at < l .after) × (l .after ≤ length s)
+SoundLine s at (Line l) =
+    (at < l .after) × (l .after ≤ length s) × (l .name ≤ l .end) × (l .end ≤ length s) × (l .low ≤ l .high) × (l .high < 4294967296) × (getD s (l .after - 1) 0 ≡ 0x0A)
 
-rest-sound : (s : List ℕ) (at : ℕ) (kind : Kind) (from end : ℕ) → at ≤ end → SoundLine s at (restAt kind from end s)
+rest-sound : (s : List ℕ) (at : ℕ) (kind : Kind) (from end : ℕ) → at < from → from ≤ end → SoundLine s at (restAt kind from end s)
 unfolding restAt
-rest-sound s at kind from end h = cond-cases (SoundLine s at) (isAt s end 0x09) (λ e. go (networkAt s (end + 1)) (network-sound s (end + 1))) (λ e. tt)
+rest-sound s at kind from end h f = cond-cases (SoundLine s at) (isAt s end 0x09) (λ e. go (networkAt s (end + 1)) (network-sound s (end + 1))) (λ e. tt)
   where
+    line-feed : (after : ℕ) → isAt s after 0x0A ≡ true → getD s (after + 1 - 1) 0 ≡ 0x0A
+    line-feed after e = let z : after + 1 - 1 ≡ after = omega arith in ap (λ k. getD s k 0) z ∙ at-is s after 0x0A e
+
     go : (b : Block) → SoundNet s (end + 1) b → SoundLine s at (thenLine b (λ low high after. cond (isAt s after 0x0A) (Line (record { kind = kind; name = from; end = end; low = low; high = high; after = after + 1 })) Malformed))
     go NoNet n = tt
-    go (Net low high given after) n = cond-cases (SoundLine s at) (isAt s after 0x0A) (λ e. (omega (arith, n .2), omega (arith, at-inside s after 0x0A e))) (λ e. tt)
+    go (Net low high given after) n = cond-cases (SoundLine s at) (isAt s after 0x0A) (λ e.
+        (omega (arith, n .2), omega (arith, at-inside s after 0x0A e), f, omega (arith, n .2, n .3), n .0, n .1, line-feed after e)) (λ e. tt)
 
 pub line-sound : (s : List ℕ) (at : ℕ) → SoundLine s at (lineAt s at)
 unfolding lineAt
@@ -276,9 +281,9 @@ line-sound s at = go (kindAt s at) (kind-sound s at)
   where
     go : (r : Kinded) → SoundKind s at r → SoundLine s at (thenName r (λ kind from. cond (nameOk kind (part from (from + nameLength (drop from s)) s)) (restAt kind from (from + nameLength (drop from s)) s) Malformed))
     go NoKind h = tt
-    go (Is kind from) h = cond-cases (SoundLine s at) (nameOk kind (part from (from + nameLength (drop from s)) s)) (λ e. rest-sound s at kind from (from + nameLength (drop from s)) (omega arith)) (λ e. tt)
+    go (Is kind from) h = cond-cases (SoundLine s at) (nameOk kind (part from (from + nameLength (drop from s)) s)) (λ e. rest-sound s at kind from (from + nameLength (drop from s)) (omega arith) (omega arith)) (λ e. tt)
 
-lines-onward : (s : List ℕ) → Onward (λ k. itemOf (lineAt s k)) (length s)
+pub lines-onward : (s : List ℕ) → Onward (λ k. itemOf (lineAt s k)) (length s)
 lines-onward s at l k e = go (lineAt s at) (line-sound s at) e
   where
     go : (r : Found) → SoundLine s at r → itemOf r ≡ item l k → (at < k) × (k ≤ length s)

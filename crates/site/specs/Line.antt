@@ -1,7 +1,7 @@
 -- A line of the site table (document 01, 'Site table'): "kind, tab, name, tab, network, LF".
 use Prim.Native.Nat.{ℕ, _+_, _-_}
 use mathlib.Core.List.{List, [], _∷_}
-use mathlib.Core.Bool.{Bool, true, false, _&&_, cond}
+use mathlib.Core.Bool.{Bool, true, _&&_, cond}
 use lib.ListN.{length, take, drop}
 use lib.Dec.{leb, ltb}
 use Rattle.text.specs.Bytes.{between, isAt}

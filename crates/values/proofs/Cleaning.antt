@@ -12,25 +12,22 @@ use Rattle.json.specs.declared.Read.{Read}
 use Rattle.json.specs.declared.Read.the-variants.{End, Bad}
 use Rattle.json.specs.declared.Next.{Next}
 use Rattle.json.specs.declared.Next.the-variants.{Done, More, Wrong}
-use Rattle.json.specs.Reading.{isSpace, spanAt, tokenAt, nextAt, keyAt, startOf, elementAt, memberAt, valueAt, textOf}
-use Rattle.json.proofs.Runs.{past-is}
-use Rattle.json.proofs.Nesting.{element-bad, element-of, element-up, member-bad, member-wrong, member-of, member-up}
+use Rattle.json.specs.Reading.{isSpace, spanAt, tokenAt, nextAt, keyAt, startOf, elementAt, memberAt, valueAt, textOf, stringAt, arrayAt, objectAt, skipAt, stop}
+use Rattle.json.proofs.Runs.{past-is, Going, going-bad, going-done, going-wrong, going-on, going-less}
+use Rattle.json.proofs.Nesting.{element-bad, element-of, element-up, member-bad, member-wrong, member-of, member-up, array-empty, array-going, object-empty, object-going, value-text, value-array, value-object, value-deep-array, value-deep-object}
 use Rattle.values.specs.Decode.{bytesAt}
-use Rattle.values.specs.Tree.{Json, Members, member, elementsAt, membersAt, nameAt, placeAt, elementsOf, membersOf, treeAt}
-use Rattle.values.specs.Clean.{allBytes, absent, clean, cleanElements, cleanMembers}
-use Rattle.json.specs.Reading.{stringAt, arrayAt, objectAt, skipAt, stop}
-use Rattle.json.proofs.Runs.{Going, going-bad, going-done, going-wrong, going-on, going-less}
-use Rattle.json.proofs.Nesting.{array-empty, array-going, object-empty, object-going, value-text, value-array, value-object, value-deep-array, value-deep-object}
+use Rattle.values.specs.Tree.{Json, Members, member, elementsAt, membersAt, nameAt, placeAt, elementsOf, membersOf, treeAt, treeOf, elementsFrom, elementsAfter, membersFrom, membersAfter, elementsIn, membersIn}
+use Rattle.values.specs.Clean.{allBytes, absent, clean, cleanElements, cleanMembers, verdictOf}
+use Rattle.values.specs.declared.Field.{Field}
+use Rattle.values.specs.declared.Field.the-variants.{Past, Halt}
 use Rattle.values.specs.declared.Checked.{Checked}
 use Rattle.values.specs.declared.Checked.the-variants.{Value, Refused}
 use Rattle.values.specs.declared.Verdict.the-variants.{Clean, Unclean, Broken}
 use Rattle.values.specs.declared.Entry.{Entry}
 use Rattle.values.specs.declared.Entry.the-variants.{Known, Kept, Full}
-use Rattle.values.specs.Names.{Rising, Entered, Below, grownOf, fineOf}
-use Rattle.values.specs.Clean.{checkedOf, verdictOf}
-use Rattle.values.specs.Tree.{treeOf}
-use Rattle.values.proofs.Walking.{membersAfter, membersFrom, elementsAfter, elementsFrom, members-turn, elements-turn, after-done, after-wrong, after-more, element-after-done, element-after-more, member-less, place-end, tree-string, tree-array, tree-object}
-use Rattle.values.proofs.Sorts.{tree-kinds}
+use Rattle.values.specs.Names.{Entering, Joined, checkedOf, Rising, Entered, Below, grownOf, fineOf}
+use Rattle.values.proofs.Walking.{members-turn, elements-turn, after-done, after-wrong, after-more, element-after-done, element-after-more, member-less, place-end}
+use Rattle.values.proofs.Trees.{tree-kinds, tree-string, tree-array, tree-object}
 use Rattle.values.proofs.Naming.{Keeps, keeps-from, keeps-end, keeps-below, keeps-on, rising-on, rising-below, entered-below, entered-room, below-then, below-same}
 
 -- is a name absent?
@@ -116,11 +113,11 @@ pub ruleset checking = (needs, both-yes, both-no, fine-kept, fine-full, fine-kno
 -- an array: what was read so far, and whether it is clean
 pub record Elementing (d : ℕ) (s : List ℕ) (at : ℕ) (a₀ a : List ℕ) (lo j : ℕ) (good : Bool) : Type 0 where
   pub going : Going (elementAt (valueAt d s) s) s (arrayAt (valueAt d s) s at) j
-  pub flag : cleanElements (elementsOf (treeAt d s) s (elementsAt d s at)) ≡ (good && cleanElements (elementsFrom d s j))
+  pub flag : cleanElements (elementsIn d s at) ≡ (good && cleanElements (elementsFrom d s j))
   pub below : Below lo a₀ a
 
 abbrev pub arrayChecked : ℕ → List ℕ → ℕ → Checked
-arrayChecked d s at = checkedOf (arrayAt (valueAt d s) s at) (cleanElements (elementsOf (treeAt d s) s (elementsAt d s at)))
+arrayChecked d s at = checkedOf (arrayAt (valueAt d s) s at) (cleanElements (elementsIn d s at))
 
 module _ (d : ℕ) (s : List ℕ) (at : ℕ) {r : Read} (e : r ≡ tokenAt 93 s at) where
   pub elementing-none : {k : ℕ} → r ≡ End k → Value k true ≡ arrayChecked d s at
@@ -145,7 +142,7 @@ module _ (d : ℕ) (s : List ℕ) (at : ℕ) (a₀ a : List ℕ) (lo j : ℕ) (g
     element-step : n ≡ elementAt (valueAt d s) s j
     element-step = element-of d s j p refl (element-parts .0) f
 
-    element-flag : cleanElements (elementsOf (treeAt d s) s (elementsAt d s at)) ≡ (good && (x && cleanElements (elementsAfter d s j)))
+    element-flag : cleanElements (elementsIn d s at) ≡ (good && (x && cleanElements (elementsAfter d s j)))
     unfolding cleanElements
     element-flag = h .flag ∙ rw (elements-turn d s j, ← p, element-parts .1)
 
@@ -171,14 +168,14 @@ module _ (d : ℕ) (s : List ℕ) (at : ℕ) (a₀ a : List ℕ) (lo j : ℕ) (g
 -- an object: what was read so far, with the names in rising order
 pub record Membering (d : ℕ) (s : List ℕ) (at : ℕ) (a₀ a : List ℕ) (lo j hi : ℕ) (good : Bool) : Type 0 where
   pub going : Going (memberAt (valueAt d s) s) s (objectAt (valueAt d s) s at) j
-  pub keeps : Keeps (cleanMembers (membersOf (treeAt d s) s (membersAt d s at))) good s a lo hi (membersFrom d s j)
+  pub keeps : Keeps (cleanMembers (membersIn d s at)) good s a lo hi (membersFrom d s j)
   pub below : Below lo a₀ a
   pub from : lo ≤ hi
   pub room : hi ≤ length a
   pub rising : Rising s a lo hi
 
 abbrev pub objectChecked : ℕ → List ℕ → ℕ → Checked
-objectChecked d s at = checkedOf (objectAt (valueAt d s) s at) (cleanMembers (membersOf (treeAt d s) s (membersAt d s at)))
+objectChecked d s at = checkedOf (objectAt (valueAt d s) s at) (cleanMembers (membersIn d s at))
 
 module _ (d : ℕ) (s : List ℕ) (at : ℕ) {r : Read} (e : r ≡ tokenAt 125 s at) where
   pub membering-none : {k : ℕ} → r ≡ End k → Value k true ≡ objectChecked d s at
@@ -197,65 +194,107 @@ module _ (d : ℕ) (s : List ℕ) (at : ℕ) {r : Read} (e : r ≡ tokenAt 125 s
         rising = λ i k m n o. absurd (omega arith);
       }
 
+-- one member
+module _ (d : ℕ) (s : List ℕ) (j v : ℕ) (a : List ℕ) (lo hi : ℕ) (l : lo ≤ hi) (m : hi ≤ length a) (x : ℕ) (b : List ℕ) (r : Entry) (en : Entered s x a lo hi b r) where
+  pub grown-fits : length a < 2 ^ 64 → grownOf hi r ≤ 18446744073709551615
+  grown-fits n = let o = entered-room s x a b lo hi r en m .1 in omega arith
+
+  module _ {top : ℕ} (gr : top ≡ grownOf hi r) where
+    pub grown-room : top ≤ length b
+    grown-room = let o = entered-room s x a b lo hi r en m .1 in let n = entered-below s x a b lo hi r en .long in omega arith
+
+    module _ {i : ℕ} (sk : i ≡ spanAt isSpace s v) {t : Checked} (ch : t ≡ checkedOf (valueAt d s i) (clean (treeAt d s i))) (c : List ℕ) (bl : Below top b c) where
+      pub joined-halt : {k : ℕ} → t ≡ Refused k → Joined d s j v a lo hi c (Halt k)
+      unfolding Joined
+      joined-halt {k} u =
+          let o = entered-room s x a b lo hi r en m .0 in
+          let y : valueAt d s i ≡ Bad k = checked-bad _ _ (sym u ∙ ch) in
+          (rw (← sk) y, below-then (omega arith) (entered-below s x a b lo hi r en) bl)
+
+      pub joined-past : {e : ℕ} {z : Bool} → t ≡ Value e z → nameAt s j ≡ bytesAt s x → {f : Bool} → f ≡ fineOf (allBytes (nameAt s j)) (absent (nameAt s j) (membersAfter d s j)) r → {w : Bool} → w ≡ (f && z) → Joined d s j v a lo hi c (Past e top w)
+      unfolding Joined
+      joined-past {e} {z} u nm fi w =
+          let y : (valueAt d s i ≡ End e) × (z ≡ clean (treeAt d s i)) = checked-end _ _ (sym u ∙ ch) in
+          record { name = x; stands = nm; entry = r; within = b; entered = en; grown = gr; kept = bl; ended = rw (← sk) (y .0); fine = w ∙ rw (fi, y .1, sk) }
+
+pub ruleset joining = (needs, grown-fits, grown-room, joined-halt, joined-past)
+
+-- the members of an object, one after the other
 module _ (d : ℕ) (s : List ℕ) (at : ℕ) (a₀ a : List ℕ) (lo j hi : ℕ) (good : Bool) (h : Membering d s at a₀ a lo j hi good) where
   pub membering-key : {y : Read} → y ≡ keyAt s j → {k : ℕ} → y ≡ Bad k → Refused k ≡ objectChecked d s at
   membering-key p q = rw (← (going-bad (h .going) (member-bad d s j p q)))
 
-  module _ (x : ℕ) (b : List ℕ) (r : Entry) (en : Entered s x a lo hi b r) where
-    pub grown-fits : length a < 2 ^ 64 → grownOf hi r ≤ 18446744073709551615
-    grown-fits l = let m = entered-room s x a b lo hi r en (h .room) .1 in omega arith
+  module _ (v : ℕ) (b : List ℕ) (r : Field) (jn : Joined d s j v a lo hi b r) where
+    halted : {k : ℕ} → r ≡ Halt k → (valueAt d s (spanAt isSpace s v) ≡ Bad k) × Below lo a b
+    unfolding Joined
+    halted u = subst (Joined d s j v a lo hi b) u jn
 
-    module _ {hi′ : ℕ} (gr : hi′ ≡ grownOf hi r) where
-      pub grown-room : hi′ ≤ length b
-      grown-room = let m = entered-room s x a b lo hi r en (h .room) .1 in let n = entered-below s x a b lo hi r en .long in omega arith
+    pub membering-halted : {k : ℕ} → r ≡ Halt k → Below lo a₀ b
+    membering-halted u = below-then (omega arith) (h .below) (halted u .1)
 
-      pub membering-below : (c : List ℕ) → Below hi′ b c → Below lo a₀ c
-      membering-below c v = let m = entered-room s x a b lo hi r en (h .room) .0 in let n = h .from in below-then (omega arith) (below-then (omega arith) (h .below) (entered-below s x a b lo hi r en)) v
+    module _ {m top : ℕ} {w : Bool} (u : r ≡ Past m top w) where
+      past : Entering d s j v a lo hi b m top w
+      unfolding Joined
+      past = subst (Joined d s j v a lo hi b) u jn
 
-      module _ {y : Read} (p : y ≡ keyAt s j) {v : ℕ} (q : y ≡ End v) {i : ℕ} (sk : i ≡ spanAt isSpace s v) {t : Checked} (ch : t ≡ checkedOf (valueAt d s i) (clean (treeAt d s i))) where
-        pub membering-bad : {k : ℕ} → t ≡ Refused k → Refused k ≡ objectChecked d s at
-        membering-bad u = rw (← (going-bad (h .going) (member-wrong d s j p q sk refl (checked-bad _ _ (sym u ∙ ch)))))
+      -- up to where names are kept
+      past-room : (hi ≤ top) × (top ≤ length (past .within))
+      past-room =
+          let e = past in
+          let o = entered-room s (e .name) a (e .within) lo hi (e .entry) (e .entered) (h .room) in
+          let n = entered-below s (e .name) a (e .within) lo hi (e .entry) (e .entered) .long in
+          let g = e .grown in
+          omega arith
 
-        module _ {m : ℕ} {z : Bool} (u : t ≡ Value m z) {n : Next} (nx : n ≡ nextAt 125 s m) where
-          member-parts : (valueAt d s i ≡ End m) × (z ≡ clean (treeAt d s i))
-          member-parts = checked-end _ _ (sym u ∙ ch)
+      pub membering-past : Below lo a₀ b
+      membering-past =
+          let e = past in
+          let o = past-room in
+          let n = h .from in
+          below-then (omega arith) (below-then (omega arith) (h .below) (entered-below s (e .name) a (e .within) lo hi (e .entry) (e .entered))) (e .kept)
 
-          member-step : n ≡ memberAt (valueAt d s) s j
-          member-step = member-of d s j p q sk refl (member-parts .0) nx
+    module _ {y : Read} (p : y ≡ keyAt s j) (q : y ≡ End v) where
+      pub membering-bad : {k : ℕ} → r ≡ Halt k → Refused k ≡ objectChecked d s at
+      membering-bad u = rw (← (going-bad (h .going) (member-wrong d s j p q refl refl (halted u .0))))
 
-          pub membering-wrong : {k : ℕ} → n ≡ Wrong k → Refused k ≡ objectChecked d s at
-          membering-wrong w = rw (← (going-wrong (h .going) n member-step w))
+      module _ {m top : ℕ} {w : Bool} (u : r ≡ Past m top w) {n : Next} (nx : n ≡ nextAt 125 s m) where
+        member-step : n ≡ memberAt (valueAt d s) s j
+        member-step = member-of d s j p q refl refl (past u .ended) nx
 
-          pub membering-less : {k : ℕ} → n ≡ More k → length s - k < length s - j
-          membering-less w = going-less (h .going) n member-step (member-up d s) w
+        pub membering-wrong : {k : ℕ} → n ≡ Wrong k → Refused k ≡ objectChecked d s at
+        membering-wrong l = rw (← (going-wrong (h .going) n member-step l))
 
-          module _ (nm : nameAt s j ≡ bytesAt s x) {f : Bool} (fi : f ≡ fineOf (allBytes (nameAt s j)) (absent (nameAt s j) (membersAfter d s j)) r) {w g : Bool} (both₁ : w ≡ (f && z)) (both₂ : g ≡ (good && w)) (c : List ℕ) (bl : Below hi′ b c) where
-            member-keeps : Keeps (cleanMembers (membersOf (treeAt d s) s (membersAt d s at))) g s c lo hi′ (membersAfter d s j)
-            member-keeps =
-                keeps-below bl
-                (subst (λ (k : ℕ). Keeps (cleanMembers (membersOf (treeAt d s) s (membersAt d s at))) g s b lo k (membersAfter d s j)) (sym gr)
-                (keeps-on s x a b lo hi (treeAt d s i) (membersAfter d s j)
-                (subst (λ (ms : Members). Keeps (cleanMembers (membersOf (treeAt d s) s (membersAt d s at))) good s a lo hi ms) (members-turn d s j ∙ rw (nm, ← (place-end s j p q sk))) (h .keeps))
-                r en g (both₂ ∙ rw (both₁, fi, nm, member-parts .1))))
+        pub membering-less : {k : ℕ} → n ≡ More k → length s - k < length s - j
+        membering-less l = going-less (h .going) n member-step (member-up d s) l
 
-            pub membering-done : {k : ℕ} → n ≡ Done k → Value k g ≡ objectChecked d s at
-            membering-done l =
-                rw (← (going-done (h .going) n member-step l), ← (keeps-end (subst (λ (ms : Members). Keeps (cleanMembers (membersOf (treeAt d s) s (membersAt d s at))) g s c lo hi′ ms) (after-done d s j member-step l) member-keeps)))
+        module _ {g : Bool} (gd : g ≡ (good && w)) where
+          member-keeps : Keeps (cleanMembers (membersIn d s at)) g s b lo top (membersAfter d s j)
+          member-keeps =
+              let e = past u in
+              keeps-below (e .kept)
+              (subst (λ (k : ℕ). Keeps (cleanMembers (membersIn d s at)) g s (e .within) lo k (membersAfter d s j)) (sym (e .grown))
+              (keeps-on s (e .name) a (e .within) lo hi (treeAt d s (spanAt isSpace s v)) (membersAfter d s j)
+              (subst (λ (ms : Members). Keeps (cleanMembers (membersIn d s at)) good s a lo hi ms) (members-turn d s j ∙ rw (e .stands, ← (place-end s j p q refl))) (h .keeps))
+              (e .entry) (e .entered) g (gd ∙ ap (λ (k : Bool). good && k) (e .fine ∙ ap (λ (k : List ℕ). fineOf (allBytes k) (absent k (membersAfter d s j)) (e .entry) && clean (treeAt d s (spanAt isSpace s v))) (e .stands)))))
 
-            pub membering-on : {k : ℕ} → n ≡ More k → Membering d s at a₀ c lo k hi′ g
-            membering-on l =
-                let m = entered-room s x a b lo hi r en (h .room) .0 in
-                let o = h .from in
-                let e = bl .long in
-                let y = grown-room in
-                record {
-                  going = going-on (h .going) n member-step (member-up d s) l;
-                  keeps = subst (λ (ms : Members). Keeps (cleanMembers (membersOf (treeAt d s) s (membersAt d s at))) g s c lo hi′ ms) (after-more d s j member-step l) member-keeps;
-                  below = membering-below c bl;
-                  from = omega arith;
-                  room = omega arith;
-                  rising = rising-below s b c lo hi′ bl (subst (λ (k : ℕ). Rising s b lo k) (sym gr) (rising-on s x a b lo hi r en (h .rising)));
-                }
+          pub membering-done : {k : ℕ} → n ≡ Done k → Value k g ≡ objectChecked d s at
+          membering-done l =
+              rw (← (going-done (h .going) n member-step l), ← (keeps-end (subst (λ (ms : Members). Keeps (cleanMembers (membersIn d s at)) g s b lo top ms) (after-done d s j member-step l) member-keeps)))
+
+          pub membering-on : {k : ℕ} → n ≡ More k → Membering d s at a₀ b lo k top g
+          membering-on l =
+              let e = past u in
+              let o = past-room u in
+              let f = h .from in
+              let z = e .kept .long in
+              record {
+                going = going-on (h .going) n member-step (member-up d s) l;
+                keeps = subst (λ (ms : Members). Keeps (cleanMembers (membersIn d s at)) g s b lo top ms) (after-more d s j member-step l) member-keeps;
+                below = membering-past u;
+                from = omega arith;
+                room = omega arith;
+                rising = rising-below s (e .within) b lo top (e .kept) (subst (λ (k : ℕ). Rising s (e .within) lo k) (sym (e .grown)) (rising-on s (e .name) a (e .within) lo hi (e .entry) (e .entered) (h .rising)));
+              }
 
 -- a value
 module _ (d : ℕ) (s : List ℕ) (at b : ℕ) (e : b ≡ getD s at 0) where
@@ -287,7 +326,7 @@ module _ (d : ℕ) (s : List ℕ) (at b : ℕ) (e : b ≡ getD s at 0) where
 pub value-refused : (d : ℕ) (s : List ℕ) (at : ℕ) {v : Read} → v ≡ valueAt d s at → {k : ℕ} → v ≡ Bad k → Refused k ≡ checkedOf (valueAt d s at) (clean (treeAt d s at))
 value-refused d s at p q = rw (← p, q)
 
-pub ruleset cleaning = (needs, past-is, below-same, elementing-none, elementing-from, elementing-below, elementing-bad, elementing-wrong, elementing-less, elementing-done, elementing-on, membering-none, membering-from, membering-key, grown-fits, grown-room, membering-below, membering-bad, membering-wrong, membering-less, membering-done, membering-on, value-string, value-elements, value-members, value-deep-elements, value-deep-members, value-plain-end, value-refused)
+pub ruleset cleaning = (needs, past-is, below-same, elementing-none, elementing-from, elementing-below, elementing-bad, elementing-wrong, elementing-less, elementing-done, elementing-on, membering-none, membering-from, membering-key, membering-halted, membering-past, membering-bad, membering-wrong, membering-less, membering-done, membering-on, value-string, value-elements, value-members, value-deep-elements, value-deep-members, value-plain-end, value-refused)
 
 -- the whole text
 module _ (d : ℕ) (s : List ℕ) {i : ℕ} (a : i ≡ spanAt isSpace s 0) {r : Checked} (b : r ≡ checkedOf (valueAt d s i) (clean (treeAt d s i))) where

@@ -24,7 +24,7 @@ use Rattle.values.specs.declared.Count.{Count}
 use Rattle.values.specs.declared.Count.the-variants.{Is as Int, Not}
 use Rattle.values.specs.Tree.{Json, real, Elements, Members, endOf, decimal, numberOf, treeBy, treeAt, capped, countOf}
 use Rattle.values.specs.Rules.{within}
-use Rattle.values.proofs.Walking.{tree-cases}
+use Rattle.values.proofs.Trees.{tree-cases}
 
 -- an integer
 pub end-is : (s : List ℕ) (at : ℕ) {r : Read} → r ≡ numberAt s at → {e : ℕ} → r ≡ End e → e ≡ endOf (numberAt s at)

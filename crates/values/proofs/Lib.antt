@@ -1,5 +1,6 @@
 pub mod Decoding
 pub mod Comparing
+pub mod Trees
 pub mod Walking
 pub mod Sorts
 pub mod Counting

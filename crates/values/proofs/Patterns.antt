@@ -1,62 +1,54 @@
 -- Laws of rules over a tree, for any rule: a caller's loop over elements or members is proved by these. Assumes nothing.
-use Prim.Native.Nat.{ℕ, _-_}
-use mathlib.Core.Path.{_≡_, ap, sym, _∙_}
+use Prim.Native.Nat.{ℕ, _+_, _-_}
+use mathlib.Core.Path.{_≡_, refl, ap, sym, _∙_}
 use mathlib.Core.List.{List}
 use mathlib.Core.Bool.{Bool, true, false, _&&_}
+use lib.ListN.{getD}
 use borrow.Author.Needs.{needs}
 use borrow.Author.Tests.{not-true, not-false}
-use Rattle.json.specs.declared.Read.{Read}
-use Rattle.json.specs.declared.Read.the-variants.{End, Bad}
 use Rattle.json.specs.declared.Next.{Next}
 use Rattle.json.specs.declared.Next.the-variants.{Done, More, Wrong}
-use Rattle.json.specs.Reading.{isSpace, spanAt, tokenAt, elementAt, memberAt, valueAt}
+use Rattle.json.specs.Reading.{isSpace, spanAt, elementAt, memberAt, valueAt}
+use Rattle.json.proofs.Runs.{past-is}
 use Rattle.values.specs.declared.Found.{Found}
 use Rattle.values.specs.declared.Found.the-variants.{At, Missing}
-use Rattle.values.specs.Tree.{Json, Elements, no-more, element, Members, elementsAt, membersAt, nameAt, elementsOf, membersOf, treeAt, Maybe, none, some, lookup, seen}
-use Rattle.values.specs.Rules.{must, may, all, firstWith, allNames}
-use Rattle.values.proofs.Walking.{membersAfter, membersFrom, elementsAfter, elementsFrom, members-turn, elements-turn, after-done, after-wrong, after-more, element-after-done, element-after-wrong, element-after-more, element-less, member-less}
+use Rattle.values.specs.declared.Count.{Count}
+use Rattle.values.specs.Decode.{bytesAt}
+use Rattle.values.specs.Tree.{Json, element, nameAt, treeAt, Maybe, none, some, lookup, seen, countOf, elementsFrom, elementsAfter, membersFrom, membersAfter, items, fields, itemsFrom, fieldsFrom}
+use Rattle.values.specs.Rules.{must, may, within, text, all, firstWith, allNames}
+use Rattle.values.proofs.Trees.{tree-string, tree-kinds}
+use Rattle.values.proofs.Walking.{members-turn, elements-turn, after-done, after-wrong, after-more, element-after-done, element-after-wrong, element-after-more, element-less, member-less}
 
--- a member that must be there, and one that may be missing
+-- a member that must be there, and one that may be missing; its value is looked at at the same depth, however it was come by
 module _ (w : List ℕ) (j : Json) (d : ℕ) (s : List ℕ) (r : Found) (e : lookup w j ≡ seen (treeAt d s) r) (f : Json → Bool) where
   pub must-none : r ≡ Missing → false ≡ must (lookup w j) f
   must-none q = rw (e, q)
 
-  pub must-some : {p : ℕ} → r ≡ At p → {b : Bool} → b ≡ f (treeAt d s p) → b ≡ must (lookup w j) f
-  must-some q u = rw (e, q) u
-
   pub may-none : r ≡ Missing → true ≡ may (lookup w j) f
   may-none q = rw (e, q)
 
-  pub may-some : {p : ℕ} → r ≡ At p → {b : Bool} → b ≡ f (treeAt d s p) → b ≡ may (lookup w j) f
-  may-some q u = rw (e, q) u
+  module _ {p : ℕ} (q : r ≡ At p) {d′ : ℕ} (z : d′ ≡ d) {b : Bool} (u : b ≡ f (treeAt d′ s p)) where
+    pub must-some : b ≡ must (lookup w j) f
+    must-some = rw (e, q, ← z) u
 
--- any rule over the elements of an array: F is the rule, at the elements after the bracket, or from one on
-abbrev pub elementsIn : ℕ → List ℕ → ℕ → Elements
-elementsIn d s at = elementsOf (treeAt d s) s (elementsAt d s at)
+    pub may-some : b ≡ may (lookup w j) f
+    may-some = rw (e, q, ← z) u
 
-module _ (d : ℕ) (s : List ℕ) (at : ℕ) {r : Read} (e : r ≡ tokenAt 93 s at) where
-  pub in-none : {k : ℕ} → r ≡ End k → elementsIn d s at ≡ no-more
-  unfolding elementsAt elementsOf
-  in-none q = rw (← e, q)
+-- any rule over the elements of an array: where a walk begins, and one element
+module _ (p : Json → Bool) (j : Json) (d : ℕ) (s : List ℕ) (r : Found) (e : items j ≡ itemsFrom d s r) where
+  pub all-none : r ≡ Missing → true ≡ all p (items j)
+  unfolding all
+  all-none q = rw (e, q)
 
-  pub in-some : {k : ℕ} → r ≡ Bad k → elementsIn d s at ≡ elementsFrom d s at
-  unfolding elementsAt
-  in-some q = rw (← e, q)
+  pub all-some : {k : ℕ} → r ≡ At k → {d′ : ℕ} → d′ ≡ d → all p (items j) ≡ all p (elementsFrom d′ s k)
+  all-some q z = rw (e, q, z)
 
-  module _ (p : Json → Bool) where
-    pub all-none : {k : ℕ} → r ≡ End k → true ≡ all p (elementsIn d s at)
-    unfolding all
-    all-none q = rw (in-none q)
+  pub with-none : r ≡ Missing → firstWith p (items j) ≡ none
+  unfolding firstWith
+  with-none q = rw (e, q)
 
-    pub all-some : {k : ℕ} → r ≡ Bad k → all p (elementsIn d s at) ≡ all p (elementsFrom d s at)
-    all-some q = ap (all p) (in-some q)
-
-    pub with-none : {k : ℕ} → r ≡ End k → firstWith p (elementsIn d s at) ≡ none
-    unfolding firstWith
-    with-none q = rw (in-none q)
-
-    pub with-some : {k : ℕ} → r ≡ Bad k → firstWith p (elementsIn d s at) ≡ firstWith p (elementsFrom d s at)
-    with-some q = ap (firstWith p) (in-some q)
+  pub with-some : {k : ℕ} → r ≡ At k → {d′ : ℕ} → d′ ≡ d → firstWith p (items j) ≡ firstWith p (elementsFrom d′ s k)
+  with-some q z = rw (e, q, z)
 
 module _ (p : Json → Bool) (d : ℕ) (s : List ℕ) (j : ℕ) {t : Bool} (inv : t ≡ all p (elementsFrom d s j)) {i : ℕ} (g : i ≡ spanAt isSpace s j) {b : Bool} (e : b ≡ p (treeAt d s i)) where
   all-now : t ≡ b && (all p (elementsAfter d s j))
@@ -82,9 +74,9 @@ module _ (p : Json → Bool) (d : ℕ) (s : List ℕ) (j : ℕ) {t : Maybe} (inv
   with-now : t ≡ firstWith p (element (treeAt d s i) (elementsAfter d s j))
   with-now = inv ∙ ap (firstWith p) (elements-turn d s j) ∙ ap (λ (k : ℕ). firstWith p (element (treeAt d s k) (elementsAfter d s j))) (sym g)
 
-  pub with-found : b ≡ true → t ≡ some (treeAt d s i)
+  pub with-found : b ≡ true → {d′ : ℕ} → d ≡ d′ → t ≡ some (treeAt d′ s i)
   unfolding firstWith
-  with-found q = rw (firstWith, ← e, q) at with-now
+  with-found q z = rw (← z) (rw (firstWith, ← e, q) at with-now)
 
   module _ (q : b ≡ false) {n : Next} (f : n ≡ elementAt (valueAt d s) s j) where
     pub with-done : {k : ℕ} → n ≡ Done k → t ≡ none
@@ -102,17 +94,13 @@ module _ (p : Json → Bool) (d : ℕ) (s : List ℕ) (j : ℕ) {t : Maybe} (inv
 pub ruleset array-walk = (needs, not-true, not-false, element-less, all-none, all-some, all-bad, all-done, all-wrong, all-on, with-none, with-some, with-found, with-done, with-wrong, with-on)
 
 -- any rule over the names of an object's members
-abbrev pub membersIn : ℕ → List ℕ → ℕ → Members
-membersIn d s at = membersOf (treeAt d s) s (membersAt d s at)
+module _ (p : List ℕ → Bool) (j : Json) (d : ℕ) (s : List ℕ) (r : Found) (e : fields j ≡ fieldsFrom d s r) where
+  pub names-none : r ≡ Missing → true ≡ allNames p (fields j)
+  unfolding allNames
+  names-none q = rw (e, q)
 
-module _ (d : ℕ) (s : List ℕ) (at : ℕ) {r : Read} (e : r ≡ tokenAt 125 s at) (p : List ℕ → Bool) where
-  pub names-none : {k : ℕ} → r ≡ End k → true ≡ allNames p (membersIn d s at)
-  unfolding allNames membersAt membersOf
-  names-none q = rw (← e, q)
-
-  pub names-some : {k : ℕ} → r ≡ Bad k → allNames p (membersIn d s at) ≡ allNames p (membersFrom d s at)
-  unfolding membersAt
-  names-some q = rw (← e, q)
+  pub names-some : {k : ℕ} → r ≡ At k → {d′ : ℕ} → d′ ≡ d → allNames p (fields j) ≡ allNames p (membersFrom d′ s k)
+  names-some q z = rw (e, q, z)
 
 module _ (p : List ℕ → Bool) (d : ℕ) (s : List ℕ) (j : ℕ) {t : Bool} (inv : t ≡ allNames p (membersFrom d s j)) {b : Bool} (e : b ≡ p (nameAt s j)) where
   names-now : t ≡ b && (allNames p (membersAfter d s j))
@@ -135,3 +123,16 @@ module _ (p : List ℕ → Bool) (d : ℕ) (s : List ℕ) (j : ℕ) {t : Bool} (
     names-on u = rw (q, after-more d s j f u) at names-now
 
 pub ruleset object-walk = (needs, not-true, not-false, member-less, names-none, names-some, names-bad, names-done, names-wrong, names-on)
+
+-- a string whose bytes pass a test, and an integer in a range
+module _ (p : List ℕ → Bool) (d : ℕ) (s : List ℕ) (at b : ℕ) (e : b ≡ getD s at 0) where
+  pub text-is : b ≡ 34 → {r : Bool} → r ≡ p (bytesAt s (at + 1)) → r ≡ text p (treeAt d s at)
+  text-is q u = rw (tree-string d s at e q) u
+
+  pub text-not : (b ≡ 34 → ⊥) → false ≡ text p (treeAt d s at)
+  text-not f = tree-kinds (λ (j : Json). false ≡ text p j) d s at b e (λ q es. refl) (λ q ms. refl) (λ q. absurd (f q)) (λ q. refl) (λ q. refl) (λ q. refl) (λ n. refl) refl
+
+pub range-of : (low high : ℕ) (j : Json) {c : Count} → c ≡ countOf j → {r : Bool} → r ≡ within low high c → r ≡ within low high (countOf j)
+range-of low high j e u = rw (← e) u
+
+pub ruleset rules = (needs, not-true, not-false, past-is, must-none, must-some, may-none, may-some, text-is, text-not, range-of)

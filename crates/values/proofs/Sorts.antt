@@ -1,5 +1,5 @@
 -- Laws of the kinds of values. Assumes nothing.
-use Prim.Native.Nat.{ℕ, zero, suc, _+_, _-_}
+use Prim.Native.Nat.{ℕ, _-_}
 use mathlib.Core.Path.{_≡_, refl, ap, sym, _∙_}
 use mathlib.Core.List.{List}
 use mathlib.Core.Bool.{Bool, true, false}
@@ -11,30 +11,8 @@ use Rattle.text.proofs.Tests.{by-test}
 use Rattle.json.specs.declared.Start.{Start}
 use Rattle.json.specs.declared.Start.the-variants.{Array, Object, Text, True, False, Null}
 use Rattle.json.specs.Reading.{startOf}
-use Rattle.values.specs.Decode.{bytesAt}
-use Rattle.values.specs.Tree.{Json, null, bool, integer, real, string, array, object, Elements, Members, numberOf, treeBy, treeAt, isNull, isBool, isString, isArray, isObject}
-use Rattle.values.proofs.Walking.{tree-cases, number-cases}
-
--- what kind of value it is
-pub tree-kinds : (P : Json → Type 0) (d : ℕ) (s : List ℕ) (at b : ℕ) → b ≡ getD s at 0 → (b ≡ 91 → (es : Elements) → P (array es)) → (b ≡ 123 → (ms : Members) → P (object ms)) → (b ≡ 34 → P (string (bytesAt s (at + 1)))) → (b ≡ 116 → P (bool true)) → (b ≡ 102 → P (bool false)) → (b ≡ 110 → P null) → ((n : ℕ) → P (integer n)) → P real → P (treeAt d s at)
-unfolding treeAt
-tree-kinds P d s at b e a o t y n z m r = go d
-  where
-    num : P (numberOf s at)
-    num = number-cases P s at m r
-
-    by : (arr : ℕ → Elements) (obj : ℕ → Members) → P (treeBy (startOf (getD s at 0)) s at arr obj)
-    by arr obj = tree-cases P s at (getD s at 0) arr obj (λ q. a (e ∙ q) _) (λ q. o (e ∙ q) _) (λ q. t (e ∙ q)) (λ q. y (e ∙ q)) (λ q. n (e ∙ q)) (λ q. z (e ∙ q)) r (λ q. num) (λ q. num)
-
-    go : (k : ℕ) → P (treeAt k s at)
-    go zero = by _ _
-    go (suc k) = by _ _
-
--- by what its first byte begins
-pub tree-start : (P : Json → Type 0) (d : ℕ) (s : List ℕ) (at : ℕ) (k : Start) → startOf (getD s at 0) ≡ k → ((arr : ℕ → Elements) (obj : ℕ → Members) → P (treeBy k s at arr obj)) → P (treeAt d s at)
-unfolding treeAt
-tree-start P zero s at k e f = rw e (f _ _)
-tree-start P (suc d) s at k e f = rw e (f _ _)
+use Rattle.values.specs.Tree.{Json, Elements, Members, treeBy, treeAt, isNull, isBool, isString, isArray, isObject}
+use Rattle.values.proofs.Trees.{tree-kinds, tree-start}
 
 module _ (d : ℕ) (s : List ℕ) (at b : ℕ) (e : b ≡ getD s at 0) where
   kind : (K : Json → Bool) (k : ℕ) (c : Start) → startOf k ≡ c → ((arr : ℕ → Elements) (obj : ℕ → Members) → true ≡ K (treeBy c s at arr obj)) → ((b ≡ k → ⊥) → false ≡ K (treeAt d s at)) → eqb b k ≡ K (treeAt d s at)

@@ -1,31 +1,20 @@
 -- Number 6 of document 01: no object has two members of one name, compared after decoding, and no string, name or value, a
 -- surrogate escape without its partner.
-use Prim.Native.Nat.{ℕ, _≤_}
-use mathlib.Core.Path.{_≡_}
+use Prim.Native.Nat.{ℕ}
 use mathlib.Core.List.{List, [], _∷_}
 use mathlib.Core.Bool.{Bool, true, not, cond, _&&_}
 use lib.Dec.{ltb}
-use lib.ListN.{length}
 use Rattle.text.specs.Words.{sameBytes}
 use Rattle.json.specs.declared.Read.{Read}
 use Rattle.json.specs.declared.Read.the-variants.{End, Bad}
-use Rattle.values.specs.declared.Checked.{Checked}
-use Rattle.values.specs.declared.Checked.the-variants.{Value, Refused}
 use Rattle.values.specs.declared.Verdict.{Verdict}
 use Rattle.values.specs.declared.Verdict.the-variants.{Clean, Unclean, Broken}
-use Rattle.values.specs.declared.Piece.{Piece}
-use Rattle.values.specs.Decode.{before, bytesAt}
 use Rattle.values.specs.Tree.{Json, null, bool, integer, real, string, array, object, Elements, no-more, element, Members, nothing, member}
 
 -- every number is a byte
 unfoldable pub allBytes : List ℕ → Bool
 allBytes [] = true
 allBytes (x ∷ xs) = ltb x 256 && allBytes xs
-
--- r is what is left of a string, or less: the same numbers in it are no bytes
-pub record Later (s : List ℕ) (p r : Piece) : Type 0 where
-  pub same : allBytes (before p (bytesAt s)) ≡ allBytes (before r (bytesAt s))
-  pub less : length (before r (bytesAt s)) ≤ length (before p (bytesAt s))
 
 -- no member of that name
 unfoldable pub absent : List ℕ → Members → Bool
@@ -49,11 +38,6 @@ unfoldable mutual
   pub cleanMembers : Members → Bool
   cleanMembers nothing = true
   cleanMembers (member n j ms) = (allBytes n && absent n ms) && (clean j && cleanMembers ms)
-
--- what a reader answers, with whether what it read is clean
-abbrev pub checkedOf : Read → Bool → Checked
-checkedOf (End e) c = Value e c
-checkedOf (Bad p) c = Refused p
 
 -- numbers 5 and 6 of a text: 5 is judged first
 abbrev pub verdictOf : Read → Bool → Verdict

@@ -1,9 +1,10 @@
 -- What a string of a text stands for: its bytes after escapes are decoded (RFC 8259, 7). Raw UTF-8 stands as it is, byte for byte.
 -- A surrogate escape without its partner stands as its own number, which is above 0xFF and so no byte.
-use Prim.Native.Nat.{ℕ, zero, suc, _+_, _-_, _*_, _/_, _%_}
-use mathlib.Core.List.{List, [], _∷_}
+use Prim.Native.Nat.{ℕ, zero, suc, _+_, _-_, _*_, _/_, _%_, _^_, _≤_, _<_}
+use mathlib.Core.Path.{_≡_}
+use mathlib.Core.List.{List, [], _∷_, _++_}
 use mathlib.Core.Bool.{Bool, true, false, cond, _&&_, _||_}
-use lib.ListN.{length}
+use lib.ListN.{length, take}
 use lib.Dec.{ltb}
 use Rattle.text.specs.Bytes.{byteAt, between, isDigit}
 use Rattle.json.specs.declared.Read.{Read}
@@ -119,3 +120,15 @@ restOf s (One a n) = pieceAt s n
 restOf s (Two a b n) = One b n
 restOf s (Three a b c n) = Two b c n
 restOf s (Four a b c d n) = Three b c d n
+
+-- two strings begin with the same n bytes, each of which stands for itself
+pub record Common (s : List ℕ) (i j n : ℕ) : Type 0 where
+  pub front : List ℕ
+  pub first : bytesAt s i ≡ front ++ bytesAt s (i + n)
+  pub second : bytesAt s j ≡ front ++ bytesAt s (j + n)
+  pub fits : (i + n < 2 ^ 64) × (j + n < 2 ^ 64)
+
+-- a string begins with the first n bytes of w, each of which stands for itself
+pub record Begun (s : List ℕ) (i : ℕ) (w : List ℕ) (n : ℕ) : Type 0 where
+  pub first : bytesAt s i ≡ take n w ++ bytesAt s (i + n)
+  pub fits : (n ≤ length w) × (i + n < 2 ^ 64)

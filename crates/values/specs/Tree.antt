@@ -116,6 +116,53 @@ treeAt (suc d) s at =
 unfoldable pub treeOf : ℕ → List ℕ → Json
 treeOf d s = treeAt d s (spanAt isSpace s 0)
 
+-- the elements of an array after its bracket, those from the one at a place on, and those after it; members of an object alike
+abbrev pub elementsIn : ℕ → List ℕ → ℕ → Elements
+elementsIn d s at = elementsOf (treeAt d s) s (elementsAt d s at)
+
+abbrev pub elementsFrom : ℕ → List ℕ → ℕ → Elements
+elementsFrom d s j = elementsOf (treeAt d s) s (placesAt (elementAt (valueAt d s) s) s j)
+
+abbrev pub elementsAfter : ℕ → List ℕ → ℕ → Elements
+elementsAfter d s j = elementsOf (treeAt d s) s (onward (elementAt (valueAt d s) s j) (placesAt (elementAt (valueAt d s) s) s))
+
+abbrev pub membersIn : ℕ → List ℕ → ℕ → Members
+membersIn d s at = membersOf (treeAt d s) s (membersAt d s at)
+
+abbrev pub membersFrom : ℕ → List ℕ → ℕ → Members
+membersFrom d s j = membersOf (treeAt d s) s (placesAt (memberAt (valueAt d s) s) s j)
+
+abbrev pub membersAfter : ℕ → List ℕ → ℕ → Members
+membersAfter d s j = membersOf (treeAt d s) s (onward (memberAt (valueAt d s) s j) (placesAt (memberAt (valueAt d s) s) s))
+
+-- the elements of an array, and the members of an object; nothing else has any
+abbrev pub items : Json → Elements
+items null = no-more
+items (bool b) = no-more
+items (integer n) = no-more
+items real = no-more
+items (string b) = no-more
+items (array es) = es
+items (object ms) = no-more
+
+abbrev pub fields : Json → Members
+fields null = nothing
+fields (bool b) = nothing
+fields (integer n) = nothing
+fields real = nothing
+fields (string b) = nothing
+fields (array es) = nothing
+fields (object ms) = ms
+
+-- those from where a walk begins, if it does
+abbrev pub itemsFrom : ℕ → List ℕ → Found → Elements
+itemsFrom d s (At j) = elementsFrom d s j
+itemsFrom d s Missing = no-more
+
+abbrev pub fieldsFrom : ℕ → List ℕ → Found → Members
+fieldsFrom d s (At j) = membersFrom d s j
+fieldsFrom d s Missing = nothing
+
 -- what may be missing
 pub data Maybe : Type 0 where
   none : Maybe
@@ -126,15 +173,8 @@ unfoldable pub find : List ℕ → Members → Maybe
 find name nothing = none
 find name (member n j ms) = cond (sameBytes n name) (some j) (find name ms)
 
--- of an object; nothing else has members
 unfoldable pub lookup : List ℕ → Json → Maybe
-lookup name null = none
-lookup name (bool b) = none
-lookup name (integer n) = none
-lookup name real = none
-lookup name (string b) = none
-lookup name (array es) = none
-lookup name (object ms) = find name ms
+lookup name j = find name (fields j)
 
 -- the tree at the place that a search found
 abbrev pub seen : (ℕ → Json) → Found → Maybe

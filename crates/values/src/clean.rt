@@ -1,6 +1,7 @@
 // Numbers 5 and 6: a text that is no JSON; an object with two members of one name, or a surrogate escape without its partner.
 use super::Checked;
 use super::Entry;
+use super::Field;
 use super::Verdict;
 use super::names::enter;
 use super::names::grown;
@@ -21,15 +22,15 @@ ghost use mathlib.Core.Path.{_≡_};
 ghost use mathlib.Core.Bool.{_&&_};
 ghost use Prim.Native.Nat.{_≤_};
 ghost use lib.ListN.{length};
-ghost use Rattle.json.specs.Reading.{stringAt, memberAt, arrayAt, objectAt, valueAt, textOf};
+ghost use Rattle.json.specs.Reading.{stringAt, arrayAt, objectAt, valueAt, textOf};
 ghost use Rattle.values.specs.Decode.{bytesAt};
-ghost use Rattle.values.specs.Tree.{membersAt, membersOf, nameAt, treeAt, treeOf, onward, placesAt, elementsOf, elementsAt};
-ghost use Rattle.values.specs.Clean.{allBytes, absent, clean, cleanElements, cleanMembers, checkedOf, verdictOf};
-ghost use Rattle.values.specs.Names.{Below, fineOf};
+ghost use Rattle.values.specs.Tree.{nameAt, treeAt, treeOf, elementsIn, membersIn, membersAfter};
+ghost use Rattle.values.specs.Clean.{allBytes, absent, clean, cleanElements, cleanMembers, verdictOf};
+ghost use Rattle.values.specs.Names.{Below, Joined, Rising, checkedOf, fineOf};
 
 // Have the members after the one at a place other names?
 fn is_absent(s: &[u8], at: usize, depth: usize) -> bool
-    ensures { λ r. ⌜ r ≡ absent (nameAt (now (s .entry)) at) (membersOf (treeAt depth (now (s .entry))) (now (s .entry)) (onward (memberAt (valueAt depth (now (s .entry))) (now (s .entry)) at) (placesAt (memberAt (valueAt depth (now (s .entry))) (now (s .entry))) (now (s .entry))))) ⌝ }
+    ensures { λ r. ⌜ r ≡ absent (nameAt (now (s .entry)) at) (membersAfter depth (now (s .entry)) at) ⌝ }
 {
     let i = name_place(s, at);
     let mut j = at;
@@ -53,7 +54,7 @@ fn is_absent(s: &[u8], at: usize, depth: usize) -> bool
 
 // The name of the member at a place, and those after it.
 fn clean_name(s: &[u8], at: usize, depth: usize) -> bool
-    ensures { λ r. ⌜ r ≡ allBytes (nameAt (now (s .entry)) at) && absent (nameAt (now (s .entry)) at) (membersOf (treeAt depth (now (s .entry))) (now (s .entry)) (onward (memberAt (valueAt depth (now (s .entry))) (now (s .entry)) at) (placesAt (memberAt (valueAt depth (now (s .entry))) (now (s .entry))) (now (s .entry))))) ⌝ }
+    ensures { λ r. ⌜ r ≡ allBytes (nameAt (now (s .entry)) at) && absent (nameAt (now (s .entry)) at) (membersAfter depth (now (s .entry)) at) ⌝ }
 {
     if all_bytes(s, name_place(s, at)) {
         return is_absent(s, at, depth);
@@ -63,7 +64,7 @@ fn clean_name(s: &[u8], at: usize, depth: usize) -> bool
 
 // The name of the member at a place, after it was entered among those before it.
 fn fine(s: &[u8], at: usize, depth: usize, r: Entry) -> bool
-    ensures { λ f. ⌜ f ≡ fineOf (allBytes (nameAt (now (s .entry)) at)) (absent (nameAt (now (s .entry)) at) (membersOf (treeAt depth (now (s .entry))) (now (s .entry)) (onward (memberAt (valueAt depth (now (s .entry))) (now (s .entry)) at) (placesAt (memberAt (valueAt depth (now (s .entry))) (now (s .entry))) (now (s .entry)))))) r ⌝ }
+    ensures { λ f. ⌜ f ≡ fineOf (allBytes (nameAt (now (s .entry)) at)) (absent (nameAt (now (s .entry)) at) (membersAfter depth (now (s .entry)) at)) r ⌝ }
 {
     match r {
         Entry::Known => false,
@@ -94,7 +95,7 @@ fn check_string(s: &[u8], at: usize) -> Checked
 // The rest of an array, after its bracket. From `lo` on the lent places are free to use.
 fn check_array(s: &[u8], at: usize, depth: usize, area: &mut [u32], lo: usize) -> Checked
     requires { ⌜ lo ≤ length (now area) ⌝ }
-    ensures { λ r. ⌜ r ≡ checkedOf (arrayAt (valueAt depth (now (s .entry))) (now (s .entry)) at) (cleanElements (elementsOf (treeAt depth (now (s .entry))) (now (s .entry)) (elementsAt depth (now (s .entry)) at))) ⌝ }
+    ensures { λ r. ⌜ r ≡ checkedOf (arrayAt (valueAt depth (now (s .entry))) (now (s .entry)) at) (cleanElements (elementsIn depth (now (s .entry)) at)) ⌝ }
     ensures { λ r. ⌜ Below lo (now (area .entry)) (now (area .exit)) ⌝ }
 {
     if let Read::End(e) = token(s, at, b']') {
@@ -125,11 +126,33 @@ fn check_array(s: &[u8], at: usize, depth: usize, area: &mut [u32], lo: usize) -
     }
 }
 
-// The rest of an object, after its bracket. The places of its names stand from `lo` to `hi`; above them those of the objects
-// in its values come and go.
+// The member that begins at `at`, whose value stands after `v`. The places of the names before it stand from `lo` to `hi`;
+// above them those of the objects in its value come and go.
+fn check_member(
+    s: &[u8],
+    at: usize,
+    v: usize,
+    depth: usize,
+    area: &mut [u32],
+    lo: usize,
+    hi: usize,
+) -> Field
+    requires { ⌜ (lo ≤ hi) × (hi ≤ length (now area)) × Rising (now s) (now area) lo hi ⌝ }
+    ensures { λ r. ⌜ Joined depth (now (s .entry)) at v (now (area .entry)) lo hi (now (area .exit)) r ⌝ }
+{
+    let r = enter(s, name_place(s, at), area, lo, hi);
+    let name = fine(s, at, depth, r);
+    let top = grown(hi, r);
+    match check_value(s, skip(s, v), depth, area, top) {
+        Checked::Refused(p) => Field::Halt(p),
+        Checked::Value(e, c) => Field::Past(e, top, both(name, c)),
+    }
+}
+
+// The rest of an object, after its bracket.
 fn check_object(s: &[u8], at: usize, depth: usize, area: &mut [u32], lo: usize) -> Checked
     requires { ⌜ lo ≤ length (now area) ⌝ }
-    ensures { λ r. ⌜ r ≡ checkedOf (objectAt (valueAt depth (now (s .entry))) (now (s .entry)) at) (cleanMembers (membersOf (treeAt depth (now (s .entry))) (now (s .entry)) (membersAt depth (now (s .entry)) at))) ⌝ }
+    ensures { λ r. ⌜ r ≡ checkedOf (objectAt (valueAt depth (now (s .entry))) (now (s .entry)) at) (cleanMembers (membersIn depth (now (s .entry)) at)) ⌝ }
     ensures { λ r. ⌜ Below lo (now (area .entry)) (now (area .exit)) ⌝ }
 {
     if let Read::End(e) = token(s, at, b'}') {
@@ -143,30 +166,26 @@ fn check_object(s: &[u8], at: usize, depth: usize, area: &mut [u32], lo: usize) 
             Read::Bad(p) => {
                 return Checked::Refused(p);
             }
-            Read::End(v) => {
-                let r = enter(s, name_place(s, j), area, lo, hi);
-                let name = fine(s, j, depth, r);
-                hi = grown(hi, r);
-                match check_value(s, skip(s, v), depth, area, hi) {
-                    Checked::Refused(p) => {
-                        return Checked::Refused(p);
-                    }
-                    Checked::Value(e, c) => {
-                        good = both(good, both(name, c));
-                        match follow(s, e, b'}') {
-                            Next::Done(k) => {
-                                return Checked::Value(k, good);
-                            }
-                            Next::Wrong(k) => {
-                                return Checked::Refused(k);
-                            }
-                            Next::More(k) => {
-                                j = k;
-                            }
+            Read::End(v) => match check_member(s, j, v, depth, area, lo, hi) {
+                Field::Halt(p) => {
+                    return Checked::Refused(p);
+                }
+                Field::Past(e, top, c) => {
+                    hi = top;
+                    good = both(good, c);
+                    match follow(s, e, b'}') {
+                        Next::Done(k) => {
+                            return Checked::Value(k, good);
+                        }
+                        Next::Wrong(k) => {
+                            return Checked::Refused(k);
+                        }
+                        Next::More(k) => {
+                            j = k;
                         }
                     }
                 }
-            }
+            },
         }
     }
 }

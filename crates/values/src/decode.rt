@@ -11,7 +11,7 @@ use text::bytes::is_digit;
 ghost use mathlib.Core.Path.{_≡_};
 ghost use Prim.Native.Nat.{_+_, _≤_, _<_};
 ghost use lib.ListN.{length};
-ghost use Rattle.values.specs.Decode.{digitOf, unitAt, letterOf, utf8, utf8Long, isHigh, isLow, pairOf, lowAt, partnerAt, escapedAt, unicodeAt, pieceAt, isRaw, firstOf, restOf};
+ghost use Rattle.values.specs.Decode.{digitOf, unitAt, letterOf, utf8, utf8Long, isHigh, isLow, pairOf, lowAt, partnerAt, escapedAt, unicodeAt, pieceAt, isRaw, Common, Begun, firstOf, restOf};
 ghost use Rattle.json.specs.Reading.{spanAt};
 
 pub fn wide(b: u8) -> u32
@@ -216,6 +216,48 @@ pub fn raw(s: &[u8], at: usize) -> usize
         i += 1;
     }
     i
+}
+
+// How many bytes two strings begin with in common, as long as they stand for themselves. Comparing goes on by pieces from
+// there: most strings have no escapes, and are compared here.
+pub fn common(s: &[u8], i: usize, j: usize) -> usize
+    ensures { λ r. ⌜ Common (now (s .entry)) i j r ⌝ }
+{
+    let mut n = 0;
+    let mut a = i;
+    let mut b = j;
+    while a < s.len() {
+        if !is_raw(s[a]) {
+            return n;
+        }
+        if byte_at(s, b) != s[a] {
+            return n;
+        }
+        a += 1;
+        b += 1;
+        n += 1;
+    }
+    n
+}
+
+// How many bytes a string begins with in common with `w`, as long as they stand for themselves.
+pub fn begun(s: &[u8], i: usize, w: &[u8]) -> usize
+    ensures { λ r. ⌜ Begun (now (s .entry)) i (now (w .entry)) r ⌝ }
+{
+    let mut n = 0;
+    let mut a = i;
+    while n < w.len() {
+        let b = byte_at(s, a);
+        if !is_raw(b) {
+            return n;
+        }
+        if b != w[n] {
+            return n;
+        }
+        a += 1;
+        n += 1;
+    }
+    n
 }
 
 // The first byte of what is left of a string.

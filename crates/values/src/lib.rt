@@ -60,6 +60,13 @@ pub enum Checked {
     Refused(usize),
 }
 
+// A member that was read: the place after it, how many names are kept now, and whether it is clean; or the place that is
+// refused.
+pub enum Field {
+    Past(usize, usize, bool),
+    Halt(usize),
+}
+
 // A text that was judged: no number 5 or 6; 6; or 5, with the place that is refused.
 pub enum Verdict {
     Clean,

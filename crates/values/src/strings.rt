@@ -1,7 +1,8 @@
 // Strings compared while they are decoded.
 use super::Head;
-use super::Order;
 use super::Piece;
+use super::decode::begun;
+use super::decode::common;
 use super::decode::first;
 use super::decode::piece;
 use super::decode::raw;
@@ -10,15 +11,15 @@ use super::decode::wide;
 ghost use mathlib.Core.Path.{_≡_};
 ghost use Rattle.text.specs.Words.{sameBytes};
 ghost use Rattle.values.specs.Decode.{bytesAt, restOf};
-ghost use Rattle.values.specs.Clean.{allBytes, Later};
-ghost use Rattle.values.specs.Names.{orderOf};
+ghost use Rattle.values.specs.Clean.{allBytes};
+ghost use Rattle.values.specs.Names.{Later};
 
 // Does the string whose first character stands at `at` stand for the bytes of `w`?
 pub fn string_is(s: &[u8], at: usize, w: &[u8]) -> bool
     ensures { λ r. ⌜ r ≡ sameBytes (bytesAt (now (s .entry)) at) (now (w .entry)) ⌝ }
 {
-    let mut p = piece(s, at);
-    let mut n = 0;
+    let mut n = begun(s, at, w);
+    let mut p = piece(s, at + n);
     while n < w.len() {
         match first(p) {
             Head::Nil => {
@@ -43,8 +44,9 @@ pub fn string_is(s: &[u8], at: usize, w: &[u8]) -> bool
 pub fn same_string(s: &[u8], i: usize, j: usize) -> bool
     ensures { λ r. ⌜ r ≡ sameBytes (bytesAt (now (s .entry)) i) (bytesAt (now (s .entry)) j) ⌝ }
 {
-    let mut p = piece(s, i);
-    let mut q = piece(s, j);
+    let n = common(s, i, j);
+    let mut p = piece(s, i + n);
+    let mut q = piece(s, j + n);
     loop {
         match first(p) {
             Head::Nil => {
@@ -96,38 +98,5 @@ pub fn all_bytes(s: &[u8], at: usize) -> bool
             }
         }
         p = later(s, p);
-    }
-}
-
-// How does one string stand to another?
-pub fn order(s: &[u8], i: usize, j: usize) -> Order
-    ensures { λ r. ⌜ r ≡ orderOf (bytesAt (now (s .entry)) i) (bytesAt (now (s .entry)) j) ⌝ }
-{
-    let mut p = piece(s, i);
-    let mut q = piece(s, j);
-    loop {
-        match first(p) {
-            Head::Nil => {
-                return match first(q) {
-                    Head::Nil => Order::Same,
-                    Head::Is(_) => Order::Less,
-                };
-            }
-            Head::Is(a) => match first(q) {
-                Head::Nil => {
-                    return Order::More;
-                }
-                Head::Is(b) => {
-                    if a < b {
-                        return Order::Less;
-                    }
-                    if b < a {
-                        return Order::More;
-                    }
-                }
-            },
-        }
-        p = rest(s, p);
-        q = rest(s, q);
     }
 }

@@ -15,7 +15,7 @@ ghost use Prim.Native.Nat.{_-_};
 ghost use Rattle.text.specs.Words.{sameBytes};
 ghost use Rattle.json.specs.Reading.{memberAt, elementAt, valueAt};
 ghost use Rattle.values.specs.Decode.{bytesAt};
-ghost use Rattle.values.specs.Tree.{membersAt, membersOf, nameAt, placeAt, treeAt, find, lookup, seen};
+ghost use Rattle.values.specs.Tree.{nameAt, placeAt, treeAt, items, fields, itemsFrom, fieldsFrom, membersFrom, find, lookup, seen};
 
 // The next member of an object, after the one that begins at a place.
 pub fn next_member(s: &[u8], at: usize, depth: usize) -> Next
@@ -68,13 +68,52 @@ pub fn named(s: &[u8], at: usize, w: &[u8]) -> bool
     string_is(s, name_place(s, at), w)
 }
 
-// Where the value of the member named `w` stands, among those after the bracket.
-pub fn seek(s: &[u8], at: usize, depth: usize, w: &[u8]) -> Found
-    ensures { λ r. ⌜ find (now (w .entry)) (membersOf (treeAt depth (now (s .entry))) (now (s .entry)) (membersAt depth (now (s .entry)) at)) ≡ seen (treeAt depth (now (s .entry))) r ⌝ }
+// The depth inside an array or an object.
+pub fn inner(depth: usize) -> usize
+    ensures { λ r. ⌜ r ≡ depth - 1 ⌝ }
 {
-    if let Read::End(_) = token(s, at, b'}') {
+    if depth == 0 {
+        return 0;
+    }
+    depth - 1
+}
+
+// Where the first element of the array at a place begins, if it has one.
+pub fn first_item(s: &[u8], at: usize, depth: usize) -> Found
+    ensures { λ r. ⌜ items (treeAt depth (now (s .entry)) at) ≡ itemsFrom (depth - 1) (now (s .entry)) r ⌝ }
+{
+    if depth == 0 {
         return Found::Missing;
     }
+    if byte_at(s, at) != b'[' {
+        return Found::Missing;
+    }
+    match token(s, at + 1, b']') {
+        Read::End(_) => Found::Missing,
+        Read::Bad(_) => Found::At(at + 1),
+    }
+}
+
+// Where the first member of the object at a place begins, if it has one.
+pub fn first_field(s: &[u8], at: usize, depth: usize) -> Found
+    ensures { λ r. ⌜ fields (treeAt depth (now (s .entry)) at) ≡ fieldsFrom (depth - 1) (now (s .entry)) r ⌝ }
+{
+    if depth == 0 {
+        return Found::Missing;
+    }
+    if byte_at(s, at) != b'{' {
+        return Found::Missing;
+    }
+    match token(s, at + 1, b'}') {
+        Read::End(_) => Found::Missing,
+        Read::Bad(_) => Found::At(at + 1),
+    }
+}
+
+// Where the value of the member named `w` stands, among those from the one at a place on.
+pub fn seek(s: &[u8], at: usize, depth: usize, w: &[u8]) -> Found
+    ensures { λ r. ⌜ find (now (w .entry)) (membersFrom depth (now (s .entry)) at) ≡ seen (treeAt depth (now (s .entry))) r ⌝ }
+{
     let mut j = at;
     loop {
         if named(s, j, w) {
@@ -94,15 +133,12 @@ pub fn seek(s: &[u8], at: usize, depth: usize, w: &[u8]) -> Found
     }
 }
 
-// Where the member named `w` of the value at a place stands.
+// Where the value of the member named `w` of the object at a place stands.
 pub fn member(s: &[u8], at: usize, depth: usize, w: &[u8]) -> Found
     ensures { λ r. ⌜ lookup (now (w .entry)) (treeAt depth (now (s .entry)) at) ≡ seen (treeAt (depth - 1) (now (s .entry))) r ⌝ }
 {
-    if depth == 0 {
-        return Found::Missing;
+    match first_field(s, at, depth) {
+        Found::Missing => Found::Missing,
+        Found::At(j) => seek(s, j, inner(depth), w),
     }
-    if byte_at(s, at) != b'{' {
-        return Found::Missing;
-    }
-    seek(s, at + 1, depth - 1, w)
 }

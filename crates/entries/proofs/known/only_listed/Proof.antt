@@ -6,10 +6,10 @@ pub only-listed-spec : {M : Type 1} → statement M
 only-listed-spec =
     tie.close
     (tie.spec
-    (λ c. search entering)
     (λ c κs. search entering)
     (λ c. search entering)
     (λ c. search entering)
-    (λ c. search entering)
     (λ c κs. search entering)
+    (λ c κs. search entering)
+    (λ c. search entering)
     (λ c. search entering))

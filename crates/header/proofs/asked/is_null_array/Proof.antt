@@ -6,20 +6,13 @@ pub is-null-array-spec : {M : Type 1} → statement M
 is-null-array-spec =
     tie.close
     (tie.spec
-    (λ c. search asking)
-    (λ c κs. search asking)
-    (λ c. search asking)
-    (λ c. search asking)
     (λ c κs. search asking)
     (λ c. search asking)
     (λ c. search asking)
     (λ c. search asking)
-    (λ c. search asking)
     (λ c κs. search asking)
-    (λ c. search asking)
     (λ c κs. search asking)
-    (λ c. search asking)
-    (λ c. search asking)
+    (λ c κs. search asking)
     (λ c. search asking)
     (λ c κs. search asking)
     (λ c. search asking)

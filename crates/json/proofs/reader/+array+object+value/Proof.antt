@@ -1,9 +1,8 @@
-use Prim.Native.Nat.{_+_, _-_}
+use Prim.Native.Nat.{_+_, _-_, ℕ, _<_}
 use lib.ListN.{length}
 use Rattle.json.specs.Reading.{arrayAt, objectAt, valueAt, elementAt, memberAt}
 use Rattle.json.proofs.Runs.{Going}
 use Rattle.json.proofs.Nesting.{nesting}
-use Prim.Native.Nat.{ℕ, _<_}
 use borrow.Fn.Kinds.{In}
 use borrow.Fn.PlainCycle.{Measures, is, falls, and}
 use Rattle.json.proofs.reader.array.Reads as array

@@ -5,13 +5,12 @@ use lib.ListN.{length}
 use Rattle.values.specs.Decode.{bytesAt}
 use Rattle.values.specs.Rules.{firstWith}
 use Rattle.lists.specs.Lists.{isNamed}
-use Rattle.lists.specs.Places.{elementsIn}
-use Rattle.values.proofs.Walking.{elementsFrom}
+use Rattle.values.specs.Tree.{elementsFrom}
 use Rattle.lists.proofs.named.first_named.Statement.{statement}
 use Rattle.lists.proofs.named.first_named.Tie as tie
 
 abbrev Inv-loop : tie.InvT-loop
-Inv-loop s at i j₀ j = firstWith (isNamed (bytesAt s i)) (elementsIn 13 s at) ≡ firstWith (isNamed (bytesAt s i)) (elementsFrom 13 s j)
+Inv-loop s at i j₀ j = firstWith (isNamed (bytesAt s i)) (elementsFrom 13 s at) ≡ firstWith (isNamed (bytesAt s i)) (elementsFrom 13 s j)
 
 abbrev μ-loop : tie.MeasureT-loop
 μ-loop s at i j₀ j = length s - j
@@ -22,10 +21,6 @@ first-named-spec =
     (tie.spec
     Inv-loop
     μ-loop
-    (λ c κs. search array-walk)
-    (λ c. search array-walk)
-    (λ c. search array-walk)
-    (λ c. search array-walk)
     (λ c. search array-walk)
     (λ c κs. search array-walk)
     (λ c κs. search array-walk)

@@ -3,16 +3,15 @@ use Prim.Native.Nat.{_-_}
 use mathlib.Core.Path.{_≡_}
 use lib.ListN.{length}
 use Rattle.lists.specs.Lists.{allDifferent, namesOf}
-use Rattle.lists.specs.Places.{elementsIn}
-use Rattle.values.proofs.Walking.{elementsFrom}
+use Rattle.values.specs.Tree.{items, treeAt, elementsFrom}
 use Rattle.lists.proofs.names.all_different.Statement.{statement}
 use Rattle.lists.proofs.names.all_different.Tie as tie
 
 abbrev Inv-loop : tie.InvT-loop
-Inv-loop s at depth j₀ j = allDifferent (namesOf (elementsIn depth s at)) ≡ allDifferent (namesOf (elementsFrom depth s j))
+Inv-loop s at depth first d j₀ j = allDifferent (namesOf (items (treeAt depth s at))) ≡ allDifferent (namesOf (elementsFrom d s j))
 
 abbrev μ-loop : tie.MeasureT-loop
-μ-loop s at depth j₀ j = length s - j
+μ-loop s at depth first d j₀ j = length s - j
 
 pub all-different-spec : {M : Type 1} → statement M
 all-different-spec =
@@ -24,6 +23,7 @@ all-different-spec =
     (λ c. search naming)
     (λ c. search naming)
     (λ c. search naming)
+    (λ c κs. search naming)
     (λ c. search naming)
     (λ c κs. search naming)
     (λ c κs. search naming)

@@ -4,16 +4,15 @@ use mathlib.Core.Path.{_≡_}
 use lib.ListN.{length}
 use Rattle.values.specs.Rules.{all}
 use Rattle.lists.specs.Lists.{hasStringName}
-use Rattle.lists.specs.Places.{elementsIn}
-use Rattle.values.proofs.Walking.{elementsFrom}
+use Rattle.values.specs.Tree.{items, treeAt, elementsFrom}
 use Rattle.lists.proofs.names.all_have_names.Statement.{statement}
 use Rattle.lists.proofs.names.all_have_names.Tie as tie
 
 abbrev Inv-loop : tie.InvT-loop
-Inv-loop s at depth j₀ j = all hasStringName (elementsIn depth s at) ≡ all hasStringName (elementsFrom depth s j)
+Inv-loop s at depth first d j₀ j = all hasStringName (items (treeAt depth s at)) ≡ all hasStringName (elementsFrom d s j)
 
 abbrev μ-loop : tie.MeasureT-loop
-μ-loop s at depth j₀ j = length s - j
+μ-loop s at depth first d j₀ j = length s - j
 
 pub all-have-names-spec : {M : Type 1} → statement M
 all-have-names-spec =
@@ -25,6 +24,7 @@ all-have-names-spec =
     (λ c. search array-walk)
     (λ c. search array-walk)
     (λ c. search array-walk)
+    (λ c κs. search array-walk)
     (λ c. search array-walk)
     (λ c κs. search array-walk)
     (λ c κs. search array-walk)

@@ -24,7 +24,7 @@ is-inner-spec =
     (λ c κs. search naming)
     (λ c. search naming)
     (λ c. search naming)
-    (λ c. search naming)
+    (λ c κs. search naming)
     (λ c κs. search naming)
     returns-2
     returns-3)

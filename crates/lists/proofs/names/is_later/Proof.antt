@@ -5,7 +5,7 @@ use lib.ListN.{length}
 use Rattle.values.specs.Decode.{bytesAt}
 use Rattle.header.specs.Asked.{isAmong}
 use Rattle.lists.specs.Lists.{namesOf}
-use Rattle.lists.specs.Places.{elementsAfter}
+use Rattle.values.specs.Tree.{elementsAfter}
 use Rattle.lists.proofs.names.is_later.Statement.{statement}
 use Rattle.lists.proofs.names.is_later.Tie as tie
 

@@ -18,7 +18,7 @@ is-nested-spec =
     (λ c κs. search naming)
     (λ c. search naming)
     (λ c. search naming)
-    (λ c. search naming)
+    (λ c κs. search naming)
     (λ c κs. search naming)
     returns
     returns-2)

@@ -4,13 +4,12 @@ use mathlib.Core.Path.{_≡_}
 use lib.ListN.{length}
 use Rattle.values.specs.Rules.{all}
 use Rattle.lists.specs.Lists.{namedOk}
-use Rattle.lists.specs.Places.{elementsIn, elementsSeen}
-use Rattle.values.proofs.Walking.{elementsFrom}
+use Rattle.values.specs.Tree.{itemsFrom, elementsFrom}
 use Rattle.lists.proofs.policies.all_name_lists.Statement.{statement}
 use Rattle.lists.proofs.policies.all_name_lists.Tie as tie
 
 abbrev Inv-loop : tie.InvT-loop
-Inv-loop s at lists j₀ j = all (namedOk (elementsSeen 13 s lists)) (elementsIn 11 s at) ≡ all (namedOk (elementsSeen 13 s lists)) (elementsFrom 11 s j)
+Inv-loop s at lists j₀ j = all (namedOk (itemsFrom 13 s lists)) (elementsFrom 11 s at) ≡ all (namedOk (itemsFrom 13 s lists)) (elementsFrom 11 s j)
 
 abbrev μ-loop : tie.MeasureT-loop
 μ-loop s at lists j₀ j = length s - j
@@ -21,10 +20,6 @@ all-name-lists-spec =
     (tie.spec
     Inv-loop
     μ-loop
-    (λ c κs. search array-walk)
-    (λ c. search array-walk)
-    (λ c. search array-walk)
-    (λ c. search array-walk)
     (λ c. search array-walk)
     (λ c κs. search array-walk)
     (λ c κs. search array-walk)

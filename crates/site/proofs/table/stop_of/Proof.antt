@@ -1,7 +1,7 @@
 use Rattle.site.proofs.Laws.{lining}
-use Prim.Native.Nat.{ℕ, _+_, _-_, _≤_, _<_}
+use Prim.Native.Nat.{_-_}
 use mathlib.Core.Path.{_≡_}
-use lib.ListN.{length, drop}
+use lib.ListN.{length}
 use Rattle.site.specs.Site.{stop}
 use Rattle.site.proofs.table.stop_of.Statement.{statement}
 use Rattle.site.proofs.table.stop_of.Tie as tie

@@ -1,7 +1,6 @@
 use Rattle.values.proofs.Cleaning.{naming}
 use Rattle.values.specs.Clean.{absent}
-use Rattle.values.specs.Tree.{nameAt}
-use Rattle.values.proofs.Walking.{membersAfter}
+use Rattle.values.specs.Tree.{nameAt, membersAfter}
 use lib.ListN.{length}
 use Prim.Native.Nat.{_-_}
 use mathlib.Core.Path.{_≡_}

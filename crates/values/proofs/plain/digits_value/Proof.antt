@@ -1,6 +1,5 @@
-use Rattle.values.proofs.Counting.{counting}
+use Rattle.values.proofs.Counting.{counting, Counting}
 use Prim.Native.Nat.{_-_}
-use Rattle.values.proofs.Counting.{Counting}
 use Rattle.values.proofs.plain.digits_value.Statement.{statement}
 use Rattle.values.proofs.plain.digits_value.Tie as tie
 

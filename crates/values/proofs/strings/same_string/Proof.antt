@@ -7,10 +7,10 @@ use Rattle.values.proofs.strings.same_string.Statement.{statement}
 use Rattle.values.proofs.strings.same_string.Tie as tie
 
 abbrev Inv-loop : tie.InvT-loop
-Inv-loop s i j p₀ q₀ p q = sameBytes (bytesAt s i) (bytesAt s j) ≡ sameBytes (before p (bytesAt s)) (before q (bytesAt s))
+Inv-loop s i j n p₀ q₀ p q = sameBytes (bytesAt s i) (bytesAt s j) ≡ sameBytes (before p (bytesAt s)) (before q (bytesAt s))
 
 abbrev μ-loop : tie.MeasureT-loop
-μ-loop s i j p₀ q₀ p q = length (before p (bytesAt s))
+μ-loop s i j n p₀ q₀ p q = length (before p (bytesAt s))
 
 pub same-string-spec : {M : Type 1} → statement M
 same-string-spec =
@@ -19,6 +19,9 @@ same-string-spec =
     Inv-loop
     μ-loop
     (λ c κs. search comparing)
+    (λ c. search comparing)
+    (λ c κs. search comparing)
+    (λ c. search comparing)
     (λ c κs. search comparing)
     (λ c. search comparing)
     (λ c κs. search comparing)

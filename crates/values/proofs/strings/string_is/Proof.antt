@@ -8,10 +8,10 @@ use Rattle.values.proofs.strings.string_is.Statement.{statement}
 use Rattle.values.proofs.strings.string_is.Tie as tie
 
 abbrev Inv-loop : tie.InvT-loop
-Inv-loop s at w p₀ n₀ p n = sameBytes (bytesAt s at) w ≡ sameBytes (before p (bytesAt s)) (drop n w)
+Inv-loop s at w n₀ p₀ n p = sameBytes (bytesAt s at) w ≡ sameBytes (before p (bytesAt s)) (drop n w)
 
 abbrev μ-loop : tie.MeasureT-loop
-μ-loop s at w p₀ n₀ p n = length w - n
+μ-loop s at w n₀ p₀ n p = length w - n
 
 pub string-is-spec : {M : Type 1} → statement M
 string-is-spec =
@@ -19,6 +19,8 @@ string-is-spec =
     (tie.spec
     Inv-loop
     μ-loop
+    (λ c κs. search comparing)
+    (λ c. search comparing)
     (λ c κs. search comparing)
     (λ c. search comparing)
     (λ c κs. search comparing)

@@ -1,0 +1,4 @@
+pub mod Meaning
+pub mod Ports
+pub mod Words
+pub mod Parts

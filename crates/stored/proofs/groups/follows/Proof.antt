@@ -1,0 +1,23 @@
+use Rattle.stored.proofs.Turning.{pairing}
+use Rattle.stored.proofs.groups.follows.Statement.{statement}
+use Rattle.stored.proofs.groups.follows.Tie as tie
+
+pub follows-spec : {M : Type 1} → statement M
+follows-spec =
+    tie.close
+    (tie.spec
+    (λ c. search pairing)
+    (λ c. search pairing)
+    (λ c. search pairing)
+    (λ c κs. search pairing)
+    (λ c. search pairing)
+    (λ c. search pairing)
+    (λ c. search pairing)
+    (λ c κs. search pairing)
+    (λ c. search pairing)
+    (λ c. search pairing)
+    (λ c. search pairing)
+    (λ c κs. search pairing)
+    (λ c. search pairing)
+    (λ c. search pairing)
+    (λ c. search pairing))

@@ -1,0 +1,12 @@
+use Rattle.stored.proofs.Putting.{putting}
+use Rattle.stored.proofs.write.write.Statement.{statement}
+use Rattle.stored.proofs.write.write.Tie as tie
+
+pub write-spec : {M : Type 1} → statement M
+write-spec =
+    tie.close
+    (tie.spec
+    (λ c κs. search putting)
+    (λ c κs. search putting)
+    (λ c. search putting)
+    (λ c. search putting))

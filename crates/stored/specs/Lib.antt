@@ -1,0 +1,8 @@
+pub mod Chunks
+pub mod Text
+pub mod Words
+pub mod Line
+pub mod Stored
+pub mod Groups
+pub mod Gathered
+pub mod Writing
