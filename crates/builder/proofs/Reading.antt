@@ -11,7 +11,7 @@ use lib.Arith.{digits-div, digits-mod}
 use borrow.Author.Needs.{needs}
 use Rattle.flows.specs.Table.{_to_, Line, Table, Set, tableOf}
 use Rattle.flows.specs.Flow.{widths}
-use Rattle.builder.specs.Encoding.{columnOf, baseOf, factorOf, wordOf, lineWords, tableWords, lowIn, highIn, lineAt}
+use Rattle.builder.specs.Encoding.{columnOf, baseOf, factorOf, wordOf, lineWords, tableWords, rangeOf, lowIn, highIn, rangeIn, lineAt}
 use Rattle.builder.specs.Cells.{topOf, widthsLeft}
 use Rattle.builder.proofs.Laid.{Fit, Fits, fit-most, line-length, put-here, put-sum, room, no-first, base-more, column-most}
 use Rattle.builder.proofs.Levels.{fits-table}
@@ -66,7 +66,13 @@ module _ (d w : ℕ) where
   unfolding highIn factorOf baseOf
   high-device h a b c e f = let q : d ≡ 5 = omega arith in rw (q, div-one w)
 
-pub ruleset reading = (needs, low-direction, low-protocol, low-opener, low-address, low-remote, low-device, high-direction, high-protocol, high-opener, high-address, high-remote, high-device)
+-- the range of the two ends, out of the word in column c
+pub range-read : (w : List ℕ) (i d c lo hi : ℕ) → c ≡ columnOf d → lo ≡ lowIn d (getD w (7071 + 3 * i + c) 0) → hi ≡ highIn d (getD w (7071 + 3 * i + c) 0) → hi < 4294967296
+    → rangeOf (lo * 4294967296 + hi) ≡ rangeIn d (getD w (lineAt i d) 0)
+range-read w i d c lo hi e p q h =
+    ap₂ (λ (x y : ℕ). x to y) (digits-div lo h ∙ p) (digits-mod lo h ∙ q) ∙ ap (λ (y : ℕ). rangeIn d (getD w (7071 + 3 * i + y) 0)) e
+
+pub ruleset reading = (needs, range-read, low-direction, low-protocol, low-opener, low-address, low-remote, low-device, high-direction, high-protocol, high-opener, high-address, high-remote, high-device)
 
 -- ---- a line's word has each range at its place: what stands above it is a multiple, what stands below it is smaller
 record Placed (d lo hi w : ℕ) : Type 0 where
@@ -155,13 +161,13 @@ module _ (l0 h0 l1 h1 l2 h2 l3 h3 l4 h4 l5 h5 : ℕ) (f : Fit 0 (l0 to h0 ∷ (l
   unfolding columnOf baseOf factorOf
   placed5 = record { above = l4 * 65536 + h4; under = 0; small = omega arith; is = word4 ∙ omega arith }
 
-  ends : (d lo hi : ℕ) → d < 6 → lo ≤ topOf d → hi ≤ topOf d → Placed d lo hi (getD (lineWords 0 whole) (columnOf d) 0) → (lo to hi) ≡ (lowIn d (getD (lineWords 0 whole) (columnOf d) 0) to highIn d (getD (lineWords 0 whole) (columnOf d) 0))
+  ends : (d lo hi : ℕ) → d < 6 → lo ≤ topOf d → hi ≤ topOf d → Placed d lo hi (getD (lineWords 0 whole) (columnOf d) 0) → (lo to hi) ≡ rangeIn d (getD (lineWords 0 whole) (columnOf d) 0)
   ends d lo hi h a b p =
       let w = getD (lineWords 0 whole) (columnOf d) 0 in
       let m = base-more d h in
       ap₂ (λ (x y : ℕ). x to y) (sym (placed-low d lo hi w (omega arith) (omega arith) p)) (sym (placed-high d lo hi w (omega arith) (omega arith) p))
 
-  told : (d : ℕ) → d < 6 → getD whole d (0 to 0) ≡ (lowIn d (getD (lineWords 0 whole) (columnOf d) 0) to highIn d (getD (lineWords 0 whole) (columnOf d) 0))
+  told : (d : ℕ) → d < 6 → getD whole d (0 to 0) ≡ rangeIn d (getD (lineWords 0 whole) (columnOf d) 0)
   told zero h = ends 0 l0 h0 h (f .0) (f .1) placed0
   told (suc zero) h = ends 1 l1 h1 h (f .2 .0) (f .2 .1) placed1
   told (suc (suc zero)) h = ends 2 l2 h2 h (f .2 .2 .0) (f .2 .2 .1) placed2
@@ -170,7 +176,7 @@ module _ (l0 h0 l1 h1 l2 h2 l3 h3 l4 h4 l5 h5 : ℕ) (f : Fit 0 (l0 to h0 ∷ (l
   told (suc (suc (suc (suc (suc zero))))) h = ends 5 l5 h5 h (f .2 .2 .2 .2 .2 .0) (f .2 .2 .2 .2 .2 .1) placed5
   told (suc (suc (suc (suc (suc (suc d)))))) h = absurd (omega arith)
 
-line-ends : (l : Line) (d : ℕ) → Fit 0 l → d < 6 → getD l d (0 to 0) ≡ (lowIn d (getD (lineWords 0 l) (columnOf d) 0) to highIn d (getD (lineWords 0 l) (columnOf d) 0))
+line-ends : (l : Line) (d : ℕ) → Fit 0 l → d < 6 → getD l d (0 to 0) ≡ rangeIn d (getD (lineWords 0 l) (columnOf d) 0)
 line-ends [] d f h = absurd (omega arith)
 line-ends (l0 to h0 ∷ []) d f h = absurd (omega (arith, f .2))
 line-ends (l0 to h0 ∷ (l1 to h1 ∷ [])) d f h = absurd (omega (arith, f .2 .2))
@@ -198,7 +204,7 @@ fit-in (l ∷ t) (suc i) f h = fit-in t i (f .1) (omega arith)
 
 -- THE LINES THAT `build` LEAVES, READ BACK: dimension d of line i of the table of a set
 pub line-read : (S : Set) (w : List ℕ) (i d : ℕ) → i < length (tableOf widths S) → d < 6 → take (3 * length (tableOf widths S)) (drop 7071 w) ≡ tableWords 0 (tableOf widths S)
-    → getD (getD (tableOf widths S) i []) d (0 to 0) ≡ (lowIn d (getD w (lineAt i d) 0) to highIn d (getD w (lineAt i d) 0))
+    → getD (getD (tableOf widths S) i []) d (0 to 0) ≡ rangeIn d (getD w (lineAt i d) 0)
 line-read S w i d h k e =
     let t = tableOf widths S in
     let c = columnOf d in
@@ -206,7 +212,7 @@ line-read S w i d h k e =
     let a : 7071 + 3 * i + c ≡ 7071 + (3 * i + c) = omega arith in
     let g : getD w (lineAt i d) 0 ≡ getD (lineWords 0 (getD t i [])) c 0 =
     ap (λ (j : ℕ). getD w j 0) a ∙ sym (getD-drop 7071 w (3 * i + c) 0) ∙ sym (getD-take (3 * length t) (drop 7071 w) (3 * i + c) 0 (omega arith)) ∙ ap (λ (l : List ℕ). getD l (3 * i + c) 0) e ∙ word-in t i c h (omega arith) in
-    line-ends (getD t i []) d (fit-in t i (all-fit S) h) k ∙ ap (λ (x : ℕ). lowIn d x to highIn d x) (sym g)
+    line-ends (getD t i []) d (fit-in t i (all-fit S) h) k ∙ ap (rangeIn d) (sym g)
   where
     all-fit : (S : Set) → Fits 0 (tableOf widths S)
     all-fit S = unfold widthsLeft topOf in fits-table 6 S (omega arith)

@@ -106,6 +106,9 @@ lowIn d w = w / factorOf d / baseOf d % baseOf d
 unfoldable pub highIn : ℕ → ℕ → ℕ
 highIn d w = w / factorOf d % baseOf d
 
+abbrev pub rangeIn : ℕ → ℕ → Range
+rangeIn d w = lowIn d w to highIn d w
+
 -- Where the word with dimension d of line i stands
 abbrev pub lineAt : ℕ → ℕ → ℕ
 lineAt i d = 7071 + 3 * i + columnOf d

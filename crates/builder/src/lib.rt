@@ -4,7 +4,7 @@
 //   169      the caller's rules, at most 66, 21 words each (specs/Encoding.antt says what each word is)
 //  1555      the cells of the six dimensions, three words each
 //  7071      the lines of the table, three words each
-// Caller: write networks and rules, call `build`, read the lines by `table::line_low` and `table::line_high`, clear the buffer.
+// Caller: write networks and rules, call `build`, read the lines by `table::range`, clear the buffer.
 ghost use mathlib.Core.Path.{_≡_};
 ghost use mathlib.Core.Bool.{Bool, true, false};
 ghost use mathlib.Core.List.{List, [], _∷_, _++_};

@@ -2,13 +2,13 @@
 ghost use mathlib.Core.Path.{_≡_};
 ghost use Prim.Native.Nat.{_<_, _≤_};
 ghost use lib.ListN.{length, getD};
-ghost use Rattle.builder.specs.Encoding.{lowIn, highIn, lineAt};
+ghost use Rattle.builder.specs.Encoding.{rangeOf, lowIn, highIn, rangeIn, lineAt};
 use crate::lines::column;
 
 // The low end of dimension d, out of the word of a line that has it.
 fn low_in(d: usize, w: u64) -> u64
     requires { ⌜ d < 6 ⌝ }
-    ensures { λ r. ⌜ r ≡ lowIn d w ⌝ }
+    ensures { λ r. ⌜ (r ≡ lowIn d w) × (r < 4294967296) ⌝ }
 {
     if d == 0 {
         w / 4294967296 / 256 % 256
@@ -28,7 +28,7 @@ fn low_in(d: usize, w: u64) -> u64
 // The high end.
 fn high_in(d: usize, w: u64) -> u64
     requires { ⌜ d < 6 ⌝ }
-    ensures { λ r. ⌜ r ≡ highIn d w ⌝ }
+    ensures { λ r. ⌜ (r ≡ highIn d w) × (r < 4294967296) ⌝ }
 {
     if d == 0 {
         w / 4294967296 % 256
@@ -45,22 +45,13 @@ fn high_in(d: usize, w: u64) -> u64
     }
 }
 
-// The low end of dimension d of line i: proofs/Reading.antt, `line-read`, says that it is that of the table's line.
-pub fn line_low(work: &[u64], i: usize, d: usize) -> u64
+// The range of dimension d of line i: proofs/Reading.antt, `line-read`, says that it is that of the table's line.
+pub fn range(work: &[u64], i: usize, d: usize) -> u64
     requires { ⌜ (i < 512) × (d < 6) × (16290 ≤ length (now work)) ⌝ }
-    ensures { λ r. ⌜ r ≡ lowIn d (getD (now (work .entry)) (lineAt i d) 0) ⌝ }
+    ensures { λ r. ⌜ rangeOf r ≡ rangeIn d (getD (now (work .entry)) (lineAt i d) 0) ⌝ }
 {
     let c = column(d);
     let x = 7071 + 3 * i + c;
-    low_in(d, work[x])
-}
-
-// The high end likewise.
-pub fn line_high(work: &[u64], i: usize, d: usize) -> u64
-    requires { ⌜ (i < 512) × (d < 6) × (16290 ≤ length (now work)) ⌝ }
-    ensures { λ r. ⌜ r ≡ highIn d (getD (now (work .entry)) (lineAt i d) 0) ⌝ }
-{
-    let c = column(d);
-    let x = 7071 + 3 * i + c;
-    high_in(d, work[x])
+    let w = work[x];
+    low_in(d, w) * 4294967296 + high_in(d, w)
 }

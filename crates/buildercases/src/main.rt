@@ -69,9 +69,10 @@ fn put_line(work: &[u64], i: usize)
     let mut d: usize = 0;
     while d < 6 {
         put(b"\t");
-        put_end(d, builder::table::line_low(work, i, d));
+        let range = builder::table::range(work, i, d);
+        put_end(d, range / 4294967296);
         put(b"-");
-        put_end(d, builder::table::line_high(work, i, d));
+        put_end(d, range % 4294967296);
         d += 1;
     }
     put(b"\n");

@@ -9,7 +9,7 @@ ghost use Rattle.io.specs.Counts.{Counts};
 ghost use Rattle.jsonfiles.specs.Answers.{answerOf};
 
 // The numbers 4 to 6 of document 01, or 0.
-fn answer(s: &[u8], area: &mut [u32]) -> u8
+fn answer(s: &[u8], area: &mut [u64]) -> u8
     ensures { λ r. ⌜ r ≡ answerOf (now (s .entry)) ⌝ }
 {
     if 32768 < s.len() {
@@ -40,7 +40,7 @@ fn run_file(name: &[u8]) {
     let mut file = [0u8; 32769];
     let n = load(name, &mut file);
     // places for as many names as can stand open at a time in a file
-    let mut area = [0u32; 4900];
+    let mut area = [0u64; 4900];
     let number = answer(&file[..n], &mut area);
     io::write_all(STDOUT_FILENO, name);
     io::write_all(STDOUT_FILENO, b"\t");

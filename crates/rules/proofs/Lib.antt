@@ -1,3 +1,5 @@
 pub mod PortLaws
 pub mod PortsHold
 pub mod PartLaws
+pub mod RowLaws
+pub mod RowsHold

@@ -58,7 +58,7 @@ module _ (s : List ℕ) (f : Found) where
   protocol-some q c e h = rw q (h ∙ ap (λ k. numberOr k (span 0 255)) e)
 
 -- ## strings
-no-bytes : (j : Json) → isString j ≡ false → bytesIn (some j) ≡ []
+pub no-bytes : (j : Json) → isString j ≡ false → bytesIn (some j) ≡ []
 no-bytes null e = refl
 no-bytes (bool b) e = refl
 no-bytes (integer n) e = refl

@@ -50,7 +50,7 @@ counted low high Not e = clash {b = false} e refl
 counted low high (Is n) e = record { n = n; is = refl; above = leb-true low n (and-left _ _ e); below = leb-true n high (and-right (leb low n) _ e) }
 
 -- ## ranges
-one-holds : (a b x : ℕ) → inSome (rangesOf (oneRange a b)) x ≡ inRange a b x
+pub one-holds : (a b x : ℕ) → inSome (rangesOf (oneRange a b)) x ≡ inRange a b x
 unfolding inSome
 one-holds a b x = by-test (inRange a b x) (λ e. rw e) (λ e. rw e)
 
@@ -78,7 +78,7 @@ other-holds n x h k =
     (λ l. let m : x < n = ltb-true x n l in rw (in-yes 0 (n - 1) x (omega arith) (omega arith)))
     (λ l. let m : n ≤ x = ltb-false x n l in rw (in-high 0 (n - 1) x (omega arith), in-yes (n + 1) 65535 x (omega arith) k))))))))
 
-single-holds : (n x : ℕ) → inRange n n x ≡ eqb x n
+pub single-holds : (n x : ℕ) → inRange n n x ≡ eqb x n
 single-holds n x =
     by-test (eqb x n)
     (λ e. let q : x ≡ n = eqb-true x n e in rw (e, in-yes n n x (omega arith) (omega arith)))

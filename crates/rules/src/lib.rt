@@ -1,3 +1,6 @@
-// From the entries of a file to rules in words.
-pub mod parts;
-pub mod ports;
+// The entries of a file, and the defaults after them, as rules in words.
+pub mod defaults;
+pub mod names;
+mod parts;
+mod ports;
+pub mod rows;

@@ -1,4 +1,5 @@
 // Port objects as ranges.
+use crate::parts::member_in;
 use text::bytes::byte_at;
 use values::Count;
 use values::Found;
@@ -8,8 +9,9 @@ use values::walk::member;
 ghost use mathlib.Core.Path.{_≡_};
 ghost use Rattle.text.specs.Ascii.{ascii};
 ghost use Rattle.values.specs.Decode.{bytesAt};
-ghost use Rattle.values.specs.Tree.{treeAt, lookup, countOf};
+ghost use Rattle.values.specs.Tree.{treeAt, lookup, seen, countOf};
 ghost use Rattle.rules.specs.Meaning.{operatorOf};
+ghost use Rattle.rules.specs.Parts.{under};
 ghost use Rattle.rules.specs.Ports.{portNumber, oneRange, otherThan, byOperator, thenPorts, portsOf, portsIn};
 
 // Two ranges, one of which must hold the port.
@@ -119,11 +121,11 @@ fn ports_of(s: &[u8], at: usize) -> Ports
     one_range(port_at(s, low), port_at(s, high))
 }
 
-// The port object of that name in the `tcp` or `udp` at a place.
-pub fn ports_in(s: &[u8], at: usize, name: &[u8]) -> Ports
-    ensures { λ r. ⌜ r ≡ portsIn (lookup (now (name .entry)) (treeAt 8 (now (s .entry)) at)) ⌝ }
+// The port object of that name in the `tcp` or `udp` that was found.
+pub fn ports_under(s: &[u8], transport: Found, name: &[u8]) -> Ports
+    ensures { λ r. ⌜ r ≡ portsIn (under (now (name .entry)) (seen (treeAt 8 (now (s .entry))) transport)) ⌝ }
 {
-    match member(s, at, 8, name) {
+    match member_in(s, transport, 8, name) {
         Found::Missing => one_range(0, 65535),
         Found::At(p) => ports_of(s, p),
     }

@@ -1,12 +1,11 @@
 -- Laws of the text of a table, written into a buffer. Assumes nothing.
-use Prim.Native.Nat.{ℕ, zero, suc, _+_, _*_, _-_, _/_, _%_, _^_, _≤_, _<_}
-use native.Mathlib.Nat.{add-zero, zero-add}
+use Prim.Native.Nat.{ℕ, suc, _+_, _*_, _/_, _%_, _^_, _≤_, _<_}
 use native.Mathlib.Omega.{arith}
-use mathlib.Core.Path.{_≡_, refl, ap, sym, _∙_, subst}
+use mathlib.Core.Path.{_≡_, ap, sym, _∙_, subst}
 use mathlib.Core.List.{List, [], _∷_, _++_, append-assoc}
-use lib.ListN.{length, getD, drop, replicate, length-append, length-replicate}
+use lib.ListN.{length, length-append}
 use lib.Dec.{eqb}
-use lib.Seq.{sets, length-sets, sets-eq}
+use lib.Seq.{length-sets}
 use mathlib.Core.Bool.{true, _&&_, _||_}
 use mathlib.Core.Logic.{_⊎_, inl, inr}
 use borrow.Author.Tests.{eqb-true}
@@ -21,11 +20,9 @@ use Rattle.flows.proofs.Stored.{LineIn}
 use Rattle.stored.specs.declared.lines.Line as struct
 use Rattle.stored.specs.Line.{ranges}
 use Rattle.stored.proofs.Spelling.{Read-as, as-read}
-use Rattle.stored.specs.Text.{nth, rangeText, addressText, lineText, tableText, replyOf}
-use Rattle.stored.specs.Words.{lineOf, linesOfWords, Fits}
+use Rattle.stored.specs.Text.{nth, rangeText, addressText, lineText, tableText}
+use Rattle.stored.specs.Words.{Fits}
 use Rattle.stored.specs.Writing.{frontParts, backParts}
-use Rattle.stored.proofs.Turning.{nth-word}
-use Rattle.stored.proofs.Gathering.{length-lines}
 
 -- ## room for what is put, part after part
 pub room-first : (at n : ℕ) (xs ys : List ℕ) → at + length (xs ++ ys) ≤ n → at + length xs ≤ n
@@ -71,32 +68,26 @@ module _ {l m : List ℕ} {at p : ℕ} {xs : List ℕ} (ys zs : List ℕ) (h : a
     three-put c = andThen a (andThen b c)
 
 -- ## a line
-module _ (w : List ℕ) (i : ℕ) where
-  line-parts : lineText (lineOf w i) ≡ frontParts (getD w i 0) (getD w (i + 1) 0) (getD w (i + 2) 0) ++ backParts (getD w (i + 3) 0) (getD w (i + 4) 0) (getD w (i + 5) 0)
-  unfolding lineText rangeText addressText
-  line-parts =
-      rw (nth-word w i 0 (omega arith), nth-word w i 1 (omega arith), nth-word w i 2 (omega arith), nth-word w i 3 (omega arith), nth-word w i 4 (omega arith), nth-word w i 5 (omega arith), add-zero i)
-      (simp append-assoc)
+module _ (x : struct.Line) where
+  line-parts : lineText (ranges x) ≡ frontParts (x .direction) (x .protocol) (x .opener) ++ backParts (x .address) (x .remote) (x .device)
+  unfolding lineText rangeText addressText nth ranges
+  line-parts = simp append-assoc
 
-  module _ (l : List ℕ) (at : ℕ) (h : at + length (lineText (lineOf w i)) ≤ length l) where
-    in-parts : at + length (frontParts (getD w i 0) (getD w (i + 1) 0) (getD w (i + 2) 0) ++ backParts (getD w (i + 3) 0) (getD w (i + 4) 0) (getD w (i + 5) 0)) ≤ length l
-    in-parts = subst (λ (x : List ℕ). at + length x ≤ length l) line-parts h
+  module _ (l : List ℕ) (at : ℕ) (h : at + length (lineText (ranges x)) ≤ length l) where
+    in-parts : at + length (frontParts (x .direction) (x .protocol) (x .opener) ++ backParts (x .address) (x .remote) (x .device)) ≤ length l
+    in-parts = subst (λ (t : List ℕ). at + length t ≤ length l) line-parts h
 
-    pub room-front : at + length (frontParts (getD w i 0) (getD w (i + 1) 0) (getD w (i + 2) 0)) ≤ length l
-    room-front = room-first at (length l) (frontParts (getD w i 0) (getD w (i + 1) 0) (getD w (i + 2) 0)) (backParts (getD w (i + 3) 0) (getD w (i + 4) 0) (getD w (i + 5) 0)) in-parts
+    pub room-front : at + length (frontParts (x .direction) (x .protocol) (x .opener)) ≤ length l
+    room-front = room-first at (length l) (frontParts (x .direction) (x .protocol) (x .opener)) (backParts (x .address) (x .remote) (x .device)) in-parts
 
-    module _ {p : ℕ} {m : List ℕ} (a : Put l at (frontParts (getD w i 0) (getD w (i + 1) 0) (getD w (i + 2) 0)) p m) where
-      pub room-back : p + length (backParts (getD w (i + 3) 0) (getD w (i + 4) 0) (getD w (i + 5) 0)) ≤ length m
-      room-back = room-next (backParts (getD w (i + 3) 0) (getD w (i + 4) 0) (getD w (i + 5) 0)) a in-parts
+    module _ {p : ℕ} {m : List ℕ} (a : Put l at (frontParts (x .direction) (x .protocol) (x .opener)) p m) where
+      pub room-back : p + length (backParts (x .address) (x .remote) (x .device)) ≤ length m
+      room-back = room-next (backParts (x .address) (x .remote) (x .device)) a in-parts
 
-      pub line-put : {r : ℕ} {o : List ℕ} → Put m p (backParts (getD w (i + 3) 0) (getD w (i + 4) 0) (getD w (i + 5) 0)) r o → Put l at (lineText (lineOf w i)) r o
+      pub line-put : {r : ℕ} {o : List ℕ} → Put m p (backParts (x .address) (x .remote) (x .device)) r o → Put l at (lineText (ranges x)) r o
       line-put b = rw line-parts (andThen a b)
 
 -- ## lengths
-append-nil : (xs : List ℕ) → xs ++ [] ≡ xs
-append-nil [] = refl
-append-nil (x ∷ xs) = ap {B = List ℕ} (λ t. x ∷ t) (append-nil xs)
-
 ends-long : (k lo hi : ℕ) → lo < 10 ^ suc k → hi < 10 ^ suc k → length (rangeText (lo to hi)) ≤ suc k + suc k + 1
 unfolding rangeText
 ends-long k lo hi h i = rw (length-append (decimal lo) (0x2D ∷ decimal hi)) (omega (arith, length-below k lo h, length-below k hi i))
@@ -169,72 +160,4 @@ table-long (l ∷ t) h = rw (length-append (lineText l) (tableText t)) (omega (a
 pub table-fits : (t : Table) → Fits t → length t ≤ 512 → length (tableText t) ≤ 36864
 table-fits t h k = omega (arith, table-long t h)
 
--- ## the lines, one after the other
-pub record Putting (b w : List ℕ) (from n : ℕ) (buf : List ℕ) (at i left : ℕ) : Type 0 where
-  pub done : List ℕ
-  pub long : length b ≡ 36864
-  pub kept : length buf ≡ length b
-  pub put : Put b 0 done at buf
-  pub rest : done ++ tableText (linesOfWords w i left) ≡ tableText (linesOfWords w from n)
-  pub all : length (tableText (linesOfWords w from n)) ≤ 36864
-  pub words : i + 6 * left ≤ length w
-
-pub putting-start : (b w : List ℕ) (from n : ℕ) → length b ≡ 36864 → n ≤ 512 → from + 6 * n ≤ length w → Fits (linesOfWords w from n) → Putting b w from n b 0 from n
-putting-start b w from n h k l f = record {
-  done = [];
-  long = h;
-  kept = refl;
-  put = record { place = refl; text = refl };
-  rest = refl;
-  all = table-fits (linesOfWords w from n) f (omega (arith, length-lines n from w));
-  words = l;
-}
-
-module _ (b w : List ℕ) (from n : ℕ) (buf : List ℕ) (at i left : ℕ) (g : Putting b w from n buf at i left) where
-  pub putting-end : left ≤ 0 → buf ≡ sets b 0 (tableText (linesOfWords w from n))
-  unfolding linesOfWords tableText
-  putting-end h =
-      let z : left ≡ 0 = omega arith in
-      let e : g .done ++ tableText (linesOfWords w i 0) ≡ tableText (linesOfWords w from n) = ap {B = List ℕ} (λ k. g .done ++ tableText (linesOfWords w i k)) (sym z) ∙ g .rest in
-      g .put .text ∙ ap {B = List ℕ} (λ x. sets b 0 x) (sym (append-nil (g .done)) ∙ e)
-
-  pub putting-words : 0 < left → i + 6 ≤ length w
-  putting-words h = omega (arith, g .words)
-
-  module _ (h : 0 < left) where
-    next : lineText (lineOf w i) ++ tableText (linesOfWords w (i + 6) (left - 1)) ≡ tableText (linesOfWords w i left)
-    unfolding linesOfWords tableText
-    next = let z : left ≡ suc (left - 1) = omega arith in sym (ap {B = List ℕ} (λ k. tableText (linesOfWords w i k)) z)
-
-    joined : (g .done ++ lineText (lineOf w i)) ++ tableText (linesOfWords w (i + 6) (left - 1)) ≡ tableText (linesOfWords w from n)
-    joined = append-assoc (g .done) (lineText (lineOf w i)) (tableText (linesOfWords w (i + 6) (left - 1))) ∙ (ap {B = List ℕ} (λ x. g .done ++ x) next ∙ g .rest)
-
-    pub putting-room : at + length (lineText (lineOf w i)) ≤ length buf
-    putting-room =
-        omega (arith, g .kept, g .long, g .put .place, g .all, ap length joined, length-append (g .done ++ lineText (lineOf w i)) (tableText (linesOfWords w (i + 6) (left - 1))), length-append (g .done) (lineText (lineOf w i)))
-
-    pub putting-more : (r : ℕ) (m : List ℕ) → Put buf at (lineText (lineOf w i)) r m → Putting b w from n m r (i + 6) (left - 1)
-    putting-more r m a = record {
-      done = g .done ++ lineText (lineOf w i);
-      long = g .long;
-      kept = ap length (a .text) ∙ (length-sets buf at (lineText (lineOf w i)) ∙ g .kept);
-      put = andThen (g .put) a;
-      rest = joined;
-      all = g .all;
-      words = omega (arith, g .words);
-    }
-
-drop-zeros : (k n : ℕ) → drop {A = ℕ} k (replicate n 0) ≡ replicate (n - k) 0
-drop-zeros zero n = let p : n - 0 ≡ n = omega arith in rw p
-drop-zeros (suc k) zero = let p : 0 - suc k ≡ 0 = omega arith in rw p
-drop-zeros (suc k) (suc n) = let p : suc n - suc k ≡ n - k = omega arith in rw p (drop-zeros k n)
-
-pub reply-is : (b l m w : List ℕ) (from n : ℕ) → length b ≡ 36864 → n ≤ 512 → Fits (linesOfWords w from n) → l ≡ replicate (length b) 0 → m ≡ sets l 0 (tableText (linesOfWords w from n)) → m ≡ replyOf (linesOfWords w from n)
-unfolding replyOf
-reply-is b l m w from n h k f e q =
-    let z : l ≡ replicate 36864 0 = e ∙ ap {B = List ℕ} (λ x. replicate x 0) h in
-    let t : Table = linesOfWords w from n in
-    let r : 0 + length (tableText t) ≤ length (replicate {A = ℕ} 36864 0) = omega (arith, length-replicate {A = ℕ} 36864 0, table-fits t f (omega (arith, length-lines n from w))) in
-    q ∙ rw z (sets-eq (tableText t) (replicate 36864 0) 0 r ∙ rw (zero-add (length (tableText t)), drop-zeros (length (tableText t)) 36864))
-
-pub ruleset putting = (needs, room-first, room-dash, room-high, room-close, range-put, room-second, room-third, three-put, room-front, room-back, line-put, putting-start, putting-end, putting-words, putting-room, putting-more, reply-is)
+pub ruleset putting = (needs, room-first, room-dash, room-high, room-close, range-put, room-second, room-third, three-put, room-front, room-back, line-put)

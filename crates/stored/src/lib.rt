@@ -1,4 +1,4 @@
-// The bytes of a table: a stored table's verdict on a flow, and a table written as text.
+// The bytes of a table: a stored table's verdict on a flow, and a line written as text.
 pub mod answer;
 pub mod chunks;
 pub mod groups;

@@ -93,7 +93,7 @@ fn check_string(s: &[u8], at: usize) -> Checked
 }
 
 // The rest of an array, after its bracket. From `lo` on the lent places are free to use.
-fn check_array(s: &[u8], at: usize, depth: usize, area: &mut [u32], lo: usize) -> Checked
+fn check_array(s: &[u8], at: usize, depth: usize, area: &mut [u64], lo: usize) -> Checked
     requires { ⌜ lo ≤ length (now area) ⌝ }
     ensures { λ r. ⌜ r ≡ checkedOf (arrayAt (valueAt depth (now (s .entry))) (now (s .entry)) at) (cleanElements (elementsIn depth (now (s .entry)) at)) ⌝ }
     ensures { λ r. ⌜ Below lo (now (area .entry)) (now (area .exit)) ⌝ }
@@ -133,7 +133,7 @@ fn check_member(
     at: usize,
     v: usize,
     depth: usize,
-    area: &mut [u32],
+    area: &mut [u64],
     lo: usize,
     hi: usize,
 ) -> Field
@@ -150,7 +150,7 @@ fn check_member(
 }
 
 // The rest of an object, after its bracket.
-fn check_object(s: &[u8], at: usize, depth: usize, area: &mut [u32], lo: usize) -> Checked
+fn check_object(s: &[u8], at: usize, depth: usize, area: &mut [u64], lo: usize) -> Checked
     requires { ⌜ lo ≤ length (now area) ⌝ }
     ensures { λ r. ⌜ r ≡ checkedOf (objectAt (valueAt depth (now (s .entry))) (now (s .entry)) at) (cleanMembers (membersIn depth (now (s .entry)) at)) ⌝ }
     ensures { λ r. ⌜ Below lo (now (area .entry)) (now (area .exit)) ⌝ }
@@ -191,7 +191,7 @@ fn check_object(s: &[u8], at: usize, depth: usize, area: &mut [u32], lo: usize) 
 }
 
 // A value, in which arrays and objects are nested at most `depth` deep.
-fn check_value(s: &[u8], at: usize, depth: usize, area: &mut [u32], lo: usize) -> Checked
+fn check_value(s: &[u8], at: usize, depth: usize, area: &mut [u64], lo: usize) -> Checked
     requires { ⌜ lo ≤ length (now area) ⌝ }
     ensures { λ r. ⌜ r ≡ checkedOf (valueAt depth (now (s .entry)) at) (clean (treeAt depth (now (s .entry)) at)) ⌝ }
     ensures { λ r. ⌜ Below lo (now (area .entry)) (now (area .exit)) ⌝ }
@@ -220,7 +220,7 @@ fn check_value(s: &[u8], at: usize, depth: usize, area: &mut [u32], lo: usize) -
 
 // Numbers 5 and 6 of a whole text, in one pass over it. What `area` held is lost; of any length the answer is the same, and
 // with as many places as an object has members it comes quickly.
-pub fn judge(s: &[u8], depth: usize, area: &mut [u32]) -> Verdict
+pub fn judge(s: &[u8], depth: usize, area: &mut [u64]) -> Verdict
     ensures { λ r. ⌜ r ≡ verdictOf (textOf depth (now (s .entry))) (clean (treeOf depth (now (s .entry)))) ⌝ }
 {
     match check_value(s, skip(s, 0), depth, area, 0) {

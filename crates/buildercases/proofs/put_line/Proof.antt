@@ -4,10 +4,10 @@ use Rattle.buildercases.proofs.put_line.Statement.{statement}
 use Rattle.buildercases.proofs.put_line.Tie as tie
 
 abbrev Inv-loop : tie.InvT-loop
-Inv-loop work i d₀ t4 t5 t6 d = d ≤ 6
+Inv-loop work i d₀ t5 t6 t7 d = d ≤ 6
 
 abbrev μ-loop : tie.MeasureT-loop
-μ-loop work i d₀ t4 t5 t6 d = 6 - d
+μ-loop work i d₀ t5 t6 t7 d = 6 - d
 
 pub put-line-spec : {M : Type 1} → statement M
 put-line-spec =
@@ -21,7 +21,6 @@ put-line-spec =
     (λ c κs. search needs)
     (λ c κs. search needs)
     (λ c. search needs)
-    (λ c κs. search needs)
     (λ c κs. search needs)
     (λ c κs. search needs)
     (λ c. search needs)

@@ -1,0 +1,4 @@
+pub mod Numbering
+pub mod Kept
+pub mod Demands
+pub mod Stages

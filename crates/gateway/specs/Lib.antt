@@ -1,0 +1,4 @@
+pub mod Answer
+pub mod Order
+pub mod Promise
+pub mod Stages

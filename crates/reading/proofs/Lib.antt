@@ -1,0 +1,4 @@
+pub mod Walking
+pub mod Whole
+pub mod Held
+pub mod Lets

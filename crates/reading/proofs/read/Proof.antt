@@ -1,0 +1,13 @@
+use Rattle.reading.proofs.Whole.{reads}
+use Rattle.reading.proofs.read.Statement.{statement}
+use Rattle.reading.proofs.read.Tie as tie
+
+pub read-spec : {M : Type 1} → statement M
+read-spec =
+    tie.close
+    (tie.spec
+    (λ c κs. search reads)
+    (λ c κs. search reads)
+    (λ c κs. search reads)
+    (λ c. search reads)
+    (λ c. search reads))

@@ -1,0 +1,17 @@
+use Rattle.reading.proofs.Walking.{walking}
+use Rattle.reading.proofs.read_direction.Statement.{statement}
+use Rattle.reading.proofs.read_direction.Tie as tie
+
+pub read-direction-spec : {M : Type 1} → statement M
+read-direction-spec =
+    tie.close
+    (tie.spec
+    (λ c κs. search walking)
+    (λ c. search walking)
+    (λ c. search walking)
+    (λ c κs. search walking)
+    (λ c κs. search walking)
+    (λ c κs. search walking)
+    (λ c. search walking)
+    (λ c. search walking)
+    (λ c. search walking))

@@ -1,0 +1,24 @@
+use Rattle.reading.proofs.Walking.{walking}
+use Rattle.reading.proofs.read_named.Statement.{statement}
+use Rattle.reading.proofs.read_named.Tie as tie
+
+pub read-named-spec : {M : Type 1} → statement M
+read-named-spec =
+    tie.close
+    (tie.spec
+    (λ c κs. search walking)
+    (λ c. search walking)
+    (λ c. search walking)
+    (λ c. search walking)
+    (λ c. search walking)
+    (λ c κs. search walking)
+    (λ c. search walking)
+    (λ c. search walking)
+    (λ c. search walking)
+    (λ c κs. search walking)
+    (λ c. search walking)
+    (λ c. search walking)
+    (λ c κs. search walking)
+    (λ c. search walking)
+    (λ c. search walking)
+    (λ c. search walking))

@@ -1,0 +1,164 @@
+// The names of an entry, as masks over the site's lines: one word for each name that is given, one after the other.
+use crate::parts::member_in;
+use flows::Direction;
+use naming::masks::mask;
+use naming::wanted::Wanted;
+use text::bytes::byte_at;
+use values::Found;
+ghost use mathlib.Core.Path.{_≡_};
+ghost use mathlib.Core.List.{[], _∷_};
+ghost use Prim.Native.Nat.{_≤_, _+_};
+ghost use lib.ListN.{length};
+ghost use Rattle.text.specs.Written.{Put};
+ghost use Rattle.values.specs.Decode.{bytesAt};
+ghost use Rattle.values.specs.Tree.{treeAt, seen};
+ghost use Rattle.site.specs.Site.{lines};
+ghost use Rattle.naming.specs.Named.{names};
+ghost use Rattle.naming.specs.Masks.{namedMask};
+ghost use Rattle.naming.specs.Wanted.{kindOf, testOf};
+ghost use Rattle.entries.specs.Sound.{remoteName};
+ghost use Rattle.rules.specs.Parts.{under};
+ghost use Rattle.rules.specs.Names.{StringAt, maskIf, thingMasks, classMask, nullMasks, hostMask, maskWords};
+
+// The first character of the string that was found; the end of the text, where nothing stands, if there is none.
+pub fn string_place(s: &[u8], found: Found) -> usize
+    ensures { λ r. ⌜ StringAt (now (s .entry)) found r ⌝ }
+{
+    let Found::At(p) = found else {
+        return s.len();
+    };
+    if byte_at(s, p) == b'"' {
+        return p + 1;
+    }
+    s.len()
+}
+
+// A word at a place, if the buffer has it; the place after it.
+pub fn put_word(work: &mut [u64], at: usize, x: u64) -> usize
+    requires { ⌜ at ≤ 5000 ⌝ }
+    ensures { λ r. ⌜ Put (now (work .entry)) at (x ∷ []) r (now (work .exit)) ⌝ }
+    ensures { λ r. ⌜ r ≡ at + 1 ⌝ }
+{
+    if at < work.len() {
+        work[at] = x;
+        return at + 1;
+    }
+    at + 1
+}
+
+// A mask where the member was found; the place after it.
+fn put_mask(
+    s: &[u8],
+    site: &[u8],
+    work: &mut [u64],
+    at: usize,
+    found: Found,
+    wanted: Wanted,
+) -> usize
+    requires { ⌜ (length (lines (now site) 0) ≤ 64) × (at ≤ 4000) ⌝ }
+    ensures { λ r. ⌜ Put (now (work .entry)) at (maskIf (seen (treeAt 7 (now (s .entry))) found) (namedMask (names (kindOf wanted) (testOf (now (s .entry)) wanted) (now (site .entry))) (now (site .entry)))) r (now (work .exit)) ⌝ }
+    ensures { λ r. ⌜ r ≤ at + 1 ⌝ }
+{
+    match found {
+        Found::Missing => at,
+        Found::At(_) => put_word(work, at, mask(s, wanted, site)),
+    }
+}
+
+// `manufacturer` and `model`.
+fn put_things(s: &[u8], site: &[u8], work: &mut [u64], at: usize, mud: Found) -> usize
+    requires { ⌜ (length (lines (now site) 0) ≤ 64) × (at ≤ 3000) ⌝ }
+    ensures { λ r. ⌜ Put (now (work .entry)) at (thingMasks (now (site .entry)) (seen (treeAt 8 (now (s .entry))) mud)) r (now (work .exit)) ⌝ }
+    ensures { λ r. ⌜ r ≤ at + 2 ⌝ }
+{
+    let maker = member_in(s, mud, 8, b"manufacturer");
+    let p = put_mask(
+        s,
+        site,
+        work,
+        at,
+        maker,
+        Wanted::Maker(string_place(s, maker)),
+    );
+    let model = member_in(s, mud, 8, b"model");
+    put_mask(
+        s,
+        site,
+        work,
+        p,
+        model,
+        Wanted::Model(string_place(s, model)),
+    )
+}
+
+// `controller`.
+fn put_class(s: &[u8], site: &[u8], work: &mut [u64], at: usize, mud: Found) -> usize
+    requires { ⌜ (length (lines (now site) 0) ≤ 64) × (at ≤ 3000) ⌝ }
+    ensures { λ r. ⌜ Put (now (work .entry)) at (classMask (now (site .entry)) (seen (treeAt 8 (now (s .entry))) mud)) r (now (work .exit)) ⌝ }
+    ensures { λ r. ⌜ r ≤ at + 1 ⌝ }
+{
+    let class = member_in(s, mud, 8, b"controller");
+    put_mask(
+        s,
+        site,
+        work,
+        at,
+        class,
+        Wanted::Class(string_place(s, class)),
+    )
+}
+
+// `same-manufacturer`, `local-networks` and `my-controller`, by the file's own URL.
+fn put_nulls(s: &[u8], site: &[u8], work: &mut [u64], at: usize, mud: Found, url: usize) -> usize
+    requires { ⌜ (length (lines (now site) 0) ≤ 64) × (at ≤ 3000) ⌝ }
+    ensures { λ r. ⌜ Put (now (work .entry)) at (nullMasks (now (site .entry)) (bytesAt (now (s .entry)) url) (seen (treeAt 8 (now (s .entry))) mud)) r (now (work .exit)) ⌝ }
+    ensures { λ r. ⌜ r ≤ at + 3 ⌝ }
+{
+    let kin = member_in(s, mud, 8, b"same-manufacturer");
+    let p = put_mask(s, site, work, at, kin, Wanted::Kin(url));
+    let local = member_in(s, mud, 8, b"local-networks");
+    let q = put_mask(s, site, work, p, local, Wanted::Local);
+    let mine = member_in(s, mud, 8, b"my-controller");
+    put_mask(s, site, work, q, mine, Wanted::Mine(url))
+}
+
+// The member for the remote's DNS name, by the direction.
+fn remote_name(s: &[u8], ipv4: Found, d: Direction) -> Found
+    ensures { λ r. ⌜ under (remoteName d) (seen (treeAt 8 (now (s .entry))) ipv4) ≡ seen (treeAt 7 (now (s .entry))) r ⌝ }
+{
+    match d {
+        Direction::FromDevice => member_in(s, ipv4, 8, b"ietf-acldns:dst-dnsname"),
+        Direction::ToDevice => member_in(s, ipv4, 8, b"ietf-acldns:src-dnsname"),
+    }
+}
+
+fn put_host(s: &[u8], site: &[u8], work: &mut [u64], at: usize, ipv4: Found, d: Direction) -> usize
+    requires { ⌜ (length (lines (now site) 0) ≤ 64) × (at ≤ 4000) ⌝ }
+    ensures { λ r. ⌜ Put (now (work .entry)) at (hostMask d (now (site .entry)) (seen (treeAt 8 (now (s .entry))) ipv4)) r (now (work .exit)) ⌝ }
+    ensures { λ r. ⌜ r ≤ at + 1 ⌝ }
+{
+    let host = remote_name(s, ipv4, d);
+    put_mask(s, site, work, at, host, Wanted::Host(string_place(s, host)))
+}
+
+// All names of the matches that were found; the place after their masks.
+pub fn put_names(
+    s: &[u8],
+    site: &[u8],
+    work: &mut [u64],
+    at: usize,
+    found: Found,
+    d: Direction,
+    url: usize,
+) -> usize
+    requires { ⌜ (length (lines (now site) 0) ≤ 64) × (at ≤ 2000) ⌝ }
+    ensures { λ r. ⌜ Put (now (work .entry)) at (maskWords d (now (site .entry)) (bytesAt (now (s .entry)) url) (seen (treeAt 9 (now (s .entry))) found)) r (now (work .exit)) ⌝ }
+    ensures { λ r. ⌜ r ≤ at + 7 ⌝ }
+{
+    let mud = member_in(s, found, 9, b"ietf-mud:mud");
+    let p = put_things(s, site, work, at, mud);
+    let q = put_class(s, site, work, p, mud);
+    let r = put_nulls(s, site, work, q, mud, url);
+    let ipv4 = member_in(s, found, 9, b"ipv4");
+    put_host(s, site, work, r, ipv4, d)
+}
