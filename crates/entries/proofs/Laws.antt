@@ -21,6 +21,7 @@ use Rattle.header.specs.Asked.{isAmong}
 use Rattle.entries.specs.Known.{only, namesOf}
 use Rattle.entries.specs.Sound.{notAbove, inOrder, ordered, remoteNetwork, deviceNetwork, remoteName, deviceName, sidesNamed, sidesOk}
 use Rattle.entries.specs.declared.known.Listed.{Listed}
+use Rattle.entries.proofs.PlaceLaws.{held-at, found-may, seen-none, seen-some, missing-is, missing-not, absent-is}
 
 -- ## listed members
 module _ (names : List (List ℕ)) (j : Json) (d : ℕ) (s : List ℕ) {r : Found} (e : fields j ≡ fieldsFrom d s r) where
@@ -71,4 +72,4 @@ module _ (l : Listed) (b : List ℕ) {r : Bool} where
   pub listed-as : {k : Listed} → l ≡ k → r ≡ isAmong b (namesOf k) → r ≡ isAmong b (namesOf l)
   listed-as q h = h ∙ ap (λ k. isAmong b (namesOf k)) (sym q)
 
-pub ruleset entering = (chained, past-is, must-none, must-some, may-none, may-some, only-none, only-some, name-among, above-both, order-counts, ordered-low, ordered-high, ordered-both, sides-from, sides-to, listed-as)
+pub ruleset entering = (chained, past-is, must-none, must-some, may-none, may-some, only-none, only-some, name-among, above-both, order-counts, ordered-low, ordered-high, ordered-both, sides-from, sides-to, listed-as, held-at, found-may, seen-none, seen-some, missing-is, missing-not, absent-is)

@@ -1,2 +1,3 @@
 pub mod Known
 pub mod Sound
+pub mod Places

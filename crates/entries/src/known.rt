@@ -1,4 +1,5 @@
 // Number 9: members that are not listed.
+use crate::places::Parts;
 use json::Next;
 use values::Found;
 use values::strings::string_is;
@@ -9,10 +10,12 @@ use values::walk::name_place;
 use values::walk::next_member;
 ghost use mathlib.Core.Path.{_≡_};
 ghost use Rattle.values.specs.Decode.{bytesAt};
-ghost use Rattle.values.specs.Tree.{membersFrom, nameAt, treeAt, lookup};
+ghost use Rattle.values.specs.Tree.{membersFrom, nameAt, treeAt, lookup, seen};
+ghost use Rattle.values.specs.declared.Found.the-variants.{At};
 ghost use Rattle.values.specs.Rules.{may, allNames};
 ghost use Rattle.header.specs.Asked.{isAmong};
 ghost use Rattle.entries.specs.Known.{only, namesOf, portsKnown, matchesKnown, entryKnown};
+ghost use Rattle.entries.specs.Places.{Held, PartsOf};
 
 // The objects for which members are listed.
 pub enum Listed {
@@ -187,39 +190,56 @@ fn ports_known(s: &[u8], at: usize, listed: Listed) -> bool
     may_have(s, at, 8, b"destination-port", Listed::Port)
 }
 
-fn may_have_ports(s: &[u8], at: usize, name: &[u8], listed: Listed) -> bool
-    ensures { λ r. ⌜ r ≡ may (lookup (now (name .entry)) (treeAt 9 (now (s .entry)) at)) (portsKnown listed) ⌝ }
+// What the place found holds, if there is one.
+fn may_list(s: &[u8], found: Found, listed: Listed) -> bool
+    ensures { λ r. ⌜ r ≡ may (seen (treeAt 8 (now (s .entry))) found) (only (namesOf listed)) ⌝ }
 {
-    match member(s, at, 9, name) {
+    match found {
+        Found::Missing => true,
+        Found::At(p) => only_listed(s, p, 8, listed),
+    }
+}
+
+fn may_list_ports(s: &[u8], found: Found, listed: Listed) -> bool
+    ensures { λ r. ⌜ r ≡ may (seen (treeAt 8 (now (s .entry))) found) (portsKnown listed) ⌝ }
+{
+    match found {
         Found::Missing => true,
         Found::At(p) => ports_known(s, p, listed),
     }
 }
 
-fn matches_known(s: &[u8], at: usize) -> bool
+fn matches_known(s: &[u8], at: usize, e: Parts) -> bool
+    requires { ⌜ Held (now s) (At at) e ⌝ }
     ensures { λ r. ⌜ r ≡ matchesKnown (treeAt 9 (now (s .entry)) at) ⌝ }
 {
     if !only_listed(s, at, 9, Listed::Matches) {
         return false;
     }
-    if !may_have(s, at, 9, b"ietf-mud:mud", Listed::Mud) {
+    let mud = e.mud;
+    if !may_list(s, mud, Listed::Mud) {
         return false;
     }
-    if !may_have(s, at, 9, b"ipv4", Listed::Ipv4) {
+    let ipv4 = e.ipv4;
+    if !may_list(s, ipv4, Listed::Ipv4) {
         return false;
     }
-    if !may_have_ports(s, at, b"tcp", Listed::Tcp) {
+    let tcp = e.tcp;
+    if !may_list_ports(s, tcp, Listed::Tcp) {
         return false;
     }
-    may_have_ports(s, at, b"udp", Listed::Udp)
+    let udp = e.udp;
+    may_list_ports(s, udp, Listed::Udp)
 }
 
-// Whether an entry has only members that are listed, in `matches` and below.
-pub fn is_known(s: &[u8], at: usize) -> bool
-    ensures { λ r. ⌜ r ≡ entryKnown (treeAt 10 (now (s .entry)) at) ⌝ }
+// Whether the entry whose parts these are has only members that are listed, in `matches` and below.
+pub fn is_known(s: &[u8], entry: usize, e: Parts) -> bool
+    requires { ⌜ PartsOf (now s) entry e ⌝ }
+    ensures { λ r. ⌜ r ≡ entryKnown (treeAt 10 (now (s .entry)) entry) ⌝ }
 {
-    match member(s, at, 10, b"matches") {
+    let matches = e.matches;
+    match matches {
         Found::Missing => true,
-        Found::At(p) => matches_known(s, p),
+        Found::At(p) => matches_known(s, p, e),
     }
 }

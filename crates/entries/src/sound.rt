@@ -1,4 +1,5 @@
 // Number 10: what an entry's members must be.
+use super::places::Parts;
 use super::ports::are_ports;
 use flows::Direction;
 use header::asked::Asked;
@@ -7,10 +8,11 @@ use header::asked::may_be;
 use header::asked::must_be;
 use values::Found;
 use values::plain;
-use values::walk::member;
 ghost use mathlib.Core.Path.{_≡_};
 ghost use Rattle.text.specs.Ascii.{ascii};
+ghost use Rattle.values.specs.declared.Found.the-variants.{At};
 ghost use Rattle.values.specs.Tree.{treeAt, lookup};
+ghost use Rattle.entries.specs.Places.{isMissing, Held, PartsOf};
 ghost use Rattle.values.specs.Rules.{must, may};
 ghost use Rattle.entries.specs.Sound.{stringsOk, nullsOk, mudOk, sidesNamed, sidesOk, ipv4Ok, tcpOk, protocolIs, tcpBeside, udpBeside, transportOk, matchesOk, actionsOk, entryOk};
 
@@ -124,108 +126,135 @@ fn is_tcp(s: &[u8], at: usize) -> bool
 }
 
 // Whether no other protocol than `n` stands in the matches at a place.
-fn protocol_is(s: &[u8], at: usize, n: u64) -> bool
+fn protocol_is(s: &[u8], at: usize, e: Parts, n: u64) -> bool
+    requires { ⌜ Held (now s) (At at) e ⌝ }
     ensures { λ r. ⌜ r ≡ protocolIs n (treeAt 9 (now (s .entry)) at) ⌝ }
 {
-    match member(s, at, 9, b"ipv4") {
+    let ipv4 = e.ipv4;
+    match ipv4 {
         Found::Missing => true,
         Found::At(p) => may_be(s, p, 8, b"protocol", Asked::Integer(n, n)),
     }
 }
 
-fn tcp_beside(s: &[u8], at: usize, tcp: usize) -> bool
+fn is_missing(found: Found) -> bool
+    ensures { λ r. ⌜ r ≡ isMissing found ⌝ }
+{
+    match found {
+        Found::Missing => true,
+        Found::At(_) => false,
+    }
+}
+
+fn tcp_beside(s: &[u8], at: usize, e: Parts, tcp: usize) -> bool
+    requires { ⌜ Held (now s) (At at) e ⌝ }
     ensures { λ r. ⌜ r ≡ tcpBeside (treeAt 9 (now (s .entry)) at) (treeAt 8 (now (s .entry)) tcp) ⌝ }
 {
     if !is_tcp(s, tcp) {
         return false;
     }
-    if !may_be(s, at, 9, b"udp", Asked::Nothing) {
+    let udp = e.udp;
+    if !is_missing(udp) {
         return false;
     }
-    protocol_is(s, at, 6)
+    protocol_is(s, at, e, 6)
 }
 
-fn udp_beside(s: &[u8], at: usize, udp: usize) -> bool
+fn udp_beside(s: &[u8], at: usize, e: Parts, udp: usize) -> bool
+    requires { ⌜ Held (now s) (At at) e ⌝ }
     ensures { λ r. ⌜ r ≡ udpBeside (treeAt 9 (now (s .entry)) at) (treeAt 8 (now (s .entry)) udp) ⌝ }
 {
     if !are_ports(s, udp) {
         return false;
     }
-    protocol_is(s, at, 17)
+    protocol_is(s, at, e, 17)
 }
 
-fn may_be_tcp(s: &[u8], at: usize) -> bool
+fn may_be_tcp(s: &[u8], at: usize, e: Parts) -> bool
+    requires { ⌜ Held (now s) (At at) e ⌝ }
     ensures { λ r. ⌜ r ≡ may (lookup (ascii "tcp") (treeAt 9 (now (s .entry)) at)) (tcpBeside (treeAt 9 (now (s .entry)) at)) ⌝ }
 {
-    match member(s, at, 9, b"tcp") {
+    let tcp = e.tcp;
+    match tcp {
         Found::Missing => true,
-        Found::At(p) => tcp_beside(s, at, p),
+        Found::At(p) => tcp_beside(s, at, e, p),
     }
 }
 
-fn is_transport(s: &[u8], at: usize) -> bool
+fn is_transport(s: &[u8], at: usize, e: Parts) -> bool
+    requires { ⌜ Held (now s) (At at) e ⌝ }
     ensures { λ r. ⌜ r ≡ transportOk (treeAt 9 (now (s .entry)) at) ⌝ }
 {
-    if !may_be_tcp(s, at) {
+    if !may_be_tcp(s, at, e) {
         return false;
     }
-    match member(s, at, 9, b"udp") {
+    let udp = e.udp;
+    match udp {
         Found::Missing => true,
-        Found::At(p) => udp_beside(s, at, p),
+        Found::At(p) => udp_beside(s, at, e, p),
     }
 }
 
-fn may_be_mud(s: &[u8], at: usize) -> bool
+fn may_be_mud(s: &[u8], at: usize, e: Parts) -> bool
+    requires { ⌜ Held (now s) (At at) e ⌝ }
     ensures { λ r. ⌜ r ≡ may (lookup (ascii "ietf-mud:mud") (treeAt 9 (now (s .entry)) at)) mudOk ⌝ }
 {
-    match member(s, at, 9, b"ietf-mud:mud") {
+    let mud = e.mud;
+    match mud {
         Found::Missing => true,
         Found::At(p) => is_mud(s, p),
     }
 }
 
-fn may_be_ipv4(s: &[u8], at: usize, d: Direction) -> bool
+fn may_be_ipv4(s: &[u8], at: usize, e: Parts, d: Direction) -> bool
+    requires { ⌜ Held (now s) (At at) e ⌝ }
     ensures { λ r. ⌜ r ≡ may (lookup (ascii "ipv4") (treeAt 9 (now (s .entry)) at)) (ipv4Ok d) ⌝ }
 {
-    match member(s, at, 9, b"ipv4") {
+    let ipv4 = e.ipv4;
+    match ipv4 {
         Found::Missing => true,
         Found::At(p) => is_ipv4(s, p, d),
     }
 }
 
-fn are_matches(s: &[u8], at: usize, d: Direction) -> bool
+fn are_matches(s: &[u8], at: usize, e: Parts, d: Direction) -> bool
+    requires { ⌜ Held (now s) (At at) e ⌝ }
     ensures { λ r. ⌜ r ≡ matchesOk d (treeAt 9 (now (s .entry)) at) ⌝ }
 {
     if !plain::is_object(s, at, 9) {
         return false;
     }
-    if !may_be_mud(s, at) {
+    if !may_be_mud(s, at, e) {
         return false;
     }
-    if !may_be_ipv4(s, at, d) {
+    if !may_be_ipv4(s, at, e, d) {
         return false;
     }
-    is_transport(s, at)
+    is_transport(s, at, e)
 }
 
-fn are_actions(s: &[u8], at: usize) -> bool
-    ensures { λ r. ⌜ r ≡ must (lookup (ascii "actions") (treeAt 10 (now (s .entry)) at)) actionsOk ⌝ }
+fn are_actions(s: &[u8], entry: usize, e: Parts) -> bool
+    requires { ⌜ PartsOf (now s) entry e ⌝ }
+    ensures { λ r. ⌜ r ≡ must (lookup (ascii "actions") (treeAt 10 (now (s .entry)) entry)) actionsOk ⌝ }
 {
-    match member(s, at, 10, b"actions") {
+    let actions = e.actions;
+    match actions {
         Found::Missing => false,
         Found::At(p) => must_be(s, p, 9, b"forwarding", Asked::Spelt(Form::Forwarding)),
     }
 }
 
-// Whether an entry of a list of that direction breaks no rule but that of number 9.
-pub fn is_sound(s: &[u8], at: usize, d: Direction) -> bool
-    ensures { λ r. ⌜ r ≡ entryOk d (treeAt 10 (now (s .entry)) at) ⌝ }
+// Whether the entry whose parts these are, of a list of that direction, breaks no rule but that of number 9.
+pub fn is_sound(s: &[u8], entry: usize, e: Parts, d: Direction) -> bool
+    requires { ⌜ PartsOf (now s) entry e ⌝ }
+    ensures { λ r. ⌜ r ≡ entryOk d (treeAt 10 (now (s .entry)) entry) ⌝ }
 {
-    if !are_actions(s, at) {
+    if !are_actions(s, entry, e) {
         return false;
     }
-    match member(s, at, 10, b"matches") {
+    let matches = e.matches;
+    match matches {
         Found::Missing => true,
-        Found::At(p) => are_matches(s, p, d),
+        Found::At(p) => are_matches(s, p, e, d),
     }
 }

@@ -60,7 +60,7 @@ fn by_rules(file: &[u8], site: &[u8], work: &mut [u64], reply: &mut [u8]) -> Ans
     if !header::header::is_mud_file(file) {
         return Answer::Refused(Reason::Header);
     }
-    if !lists::policies::are_policies(file) {
+    if !lists::policies::are_policies(file, work) {
         return Answer::Refused(Reason::Lists);
     }
     by_entries(file, site, work, reply)

@@ -2,7 +2,7 @@
 use Prim.Native.Nat.{ℕ, suc, _+_, _-_, _≤_}
 use native.Mathlib.Omega.{arith}
 use mathlib.Core.Path.{_≡_, refl, sym, _∙_}
-use mathlib.Core.List.{List, []}
+use mathlib.Core.List.{List, [], _∷_}
 use mathlib.Core.Bool.{Bool, true, false, not, _&&_, _||_}
 use lib.ListN.{length, getD, List·getD-eq-default}
 use borrow.Author.Tests.{not-true, not-false, ne-eqb}
@@ -15,18 +15,26 @@ use Rattle.json.specs.Reading.{isSpace, spanAt, elementAt, valueAt}
 use Rattle.json.proofs.Runs.{past-is}
 use Rattle.values.specs.declared.Found.{Found}
 use Rattle.values.specs.declared.Found.the-variants.{At, Missing}
+use Rattle.values.specs.declared.Entry.{Entry}
+use Rattle.values.specs.declared.Entry.the-variants.{Full}
 use Rattle.values.specs.Decode.{pieceAt, bytesAt}
+use Rattle.values.specs.Names.{Entered, grownOf}
 use Rattle.values.specs.Tree.{Json, null, bool, integer, real, string, array, object, Elements, no-more, element, elementsFrom, elementsAfter, items, itemsFrom, treeAt, treeOf, lookup, seen, isString, none}
 use Rattle.values.specs.Rules.{must, all, text, firstWith}
 use Rattle.values.proofs.Decoding.{string-turn}
 use Rattle.values.proofs.Trees.{tree-string}
 use Rattle.values.proofs.Walking.{elements-turn, element-after-done, element-after-wrong, element-after-more, element-less}
 use Rattle.values.proofs.Sorts.{string-kind}
+use Rattle.values.proofs.Naming.{grown-fits, entered-below}
 use Rattle.values.proofs.Patterns.{must-none, must-some, may-none, may-some, text-is, text-not}
 use Rattle.header.specs.Asked.{isAmong}
 use Rattle.flows.specs.declared.Direction.{Direction}
 use Rattle.flows.specs.declared.Direction.the-variants.{FromDevice, ToDevice}
+use Rattle.lists.specs.declared.names.Beside.{Beside}
+use Rattle.lists.specs.declared.names.Beside.the-variants.{Twice, Once}
 use Rattle.lists.specs.Lists.{isNamed, bytesOf, nameOf, namesOf, allDifferent, nestedOk, nested, policyName, policyOk, policyLists, listsOk, listsOf, hasType, listOk, listNamed, namedOk, directionOk, bothOk, policiesOk}
+use Rattle.lists.specs.Names.{againOf, Added}
+use Rattle.lists.proofs.Different.{Different, twice-again, once-fresh, different-from, different-again, different-next, different-end}
 
 -- ## the name of an element
 bytes-end : (s : List ℕ) → bytesAt s (length s) ≡ []
@@ -83,30 +91,49 @@ module _ (j : Json) (d : ℕ) (s : List ℕ) {r : Found} (e : items j ≡ itemsF
   unfolding namesOf allDifferent
   different-none q = rw (e, q)
 
-  pub different-some : {k : ℕ} → r ≡ At k → {d′ : ℕ} → d′ ≡ d → allDifferent (namesOf (items j)) ≡ allDifferent (namesOf (elementsFrom d′ s k))
-  different-some q z = rw (e, q, z)
+  pub different-some : {k : ℕ} → r ≡ At k → {d′ : ℕ} → d′ ≡ d → (a : List ℕ) → Different (allDifferent (namesOf (items j))) s a a 0 (namesOf (elementsFrom d′ s k))
+  different-some q z a = rw (e, q, z) (different-from s a _)
 
-module _ (d : ℕ) (s : List ℕ) (j : ℕ) {t : Bool} (inv : t ≡ allDifferent (namesOf (elementsFrom d s j))) {i : ℕ} (g : i ≡ spanAt isSpace s j) (m : ℕ) (h : bytesAt s m ≡ nameAt d s i) {r : Bool} (q : r ≡ isAmong (bytesAt s m) (namesOf (elementsAfter d s j))) where
-  different-now : t ≡ (not r && allDifferent (namesOf (elementsAfter d s j)))
-  unfolding namesOf allDifferent
-  different-now = inv ∙ rw (elements-turn d s j, ← g, ← h, ← q)
+pub again-full : (b : Bool) {r : Entry} → r ≡ Full → {t : Bool} → t ≡ b → t ≡ againOf b r
+again-full b e q = rw e q
 
-  pub different-not : r ≡ true → false ≡ t
-  different-not y = sym (rw y at different-now)
+module _ (d : ℕ) (s : List ℕ) (j : ℕ) {i : ℕ} (g : i ≡ spanAt isSpace s j) (m : ℕ) (h : bytesAt s m ≡ nameAt d s i) {a : List ℕ} {hi : ℕ} (b : List ℕ) (r : Entry) (e : Entered s m a 0 hi b r) {f : Bool} (q : f ≡ againOf (isAmong (bytesAt s m) (namesOf (elementsAfter d s j))) r) where
+  pub added-twice : f ≡ true → Added d s j a hi b Twice
+  added-twice y = record { name = m; stands = rw (← g) h; entry = r; entered = e; told = rw (← q, y) }
 
-  module _ (y : r ≡ false) {n : Next} (f : n ≡ elementAt (valueAt d s) s j) where
-    pub different-done : {k : ℕ} → n ≡ Done k → true ≡ t
-    unfolding namesOf allDifferent
-    different-done u = sym (rw (y, element-after-done d s j f u) at different-now)
+  pub added-once : f ≡ false → {n : ℕ} → n ≡ grownOf hi r → Added d s j a hi b (Once n)
+  added-once y w = record { name = m; stands = rw (← g) h; entry = r; entered = e; told = rw (← q, y, w) }
 
-    pub different-wrong : {k : ℕ} → n ≡ Wrong k → true ≡ t
-    unfolding namesOf allDifferent
-    different-wrong u = sym (rw (y, element-after-wrong d s j f u) at different-now)
+module _ (d : ℕ) (s : List ℕ) (j : ℕ) {t : Bool} {a₀ a : List ℕ} {hi : ℕ} (inv : Different t s a₀ a hi (namesOf (elementsFrom d s j))) {b : List ℕ} {r : Beside} (e : Added d s j a hi b r) where
+  different-now : Different t s a₀ a hi (bytesAt s (e .name) ∷ namesOf (elementsAfter d s j))
+  unfolding namesOf
+  different-now = rw (elements-turn d s j, ← (e .stands)) at inv
 
-    pub different-on : {k : ℕ} → n ≡ More k → t ≡ allDifferent (namesOf (elementsFrom d s k))
-    different-on u = rw (y, element-after-more d s j f u) at different-now
+  pub different-not : r ≡ Twice → false ≡ t
+  different-not q = different-again s (e .name) a b hi _ different-now (e .entry) (e .entered) (twice-again _ _ (sym (e .told) ∙ q))
 
-pub ruleset naming = (chained, past-is, element-less, must-none, must-some, may-none, may-some, name-missing, name-string, name-other, later-done, later-wrong, later-found, later-on, different-none, different-some, different-not, different-done, different-wrong, different-on)
+  pub different-long : length b ≡ length a₀
+  different-long = entered-below s (e .name) a b 0 hi (e .entry) (e .entered) .long ∙ inv .long
+
+  module _ {n : ℕ} (q : r ≡ Once n) where
+    different-left : Different t s a₀ b n (namesOf (elementsAfter d s j))
+    different-left =
+        let u = once-fresh _ _ _ (sym (e .told) ∙ q) in
+        rw (u .1) (different-next s (e .name) a b hi _ different-now (e .entry) (e .entered) (u .0))
+
+    module _ {x : Next} (u : x ≡ elementAt (valueAt d s) s j) where
+      pub different-done : {k : ℕ} → x ≡ Done k → true ≡ t
+      unfolding namesOf
+      different-done v = different-end (rw (element-after-done d s j u v) at different-left)
+
+      pub different-wrong : {k : ℕ} → x ≡ Wrong k → true ≡ t
+      unfolding namesOf
+      different-wrong v = different-end (rw (element-after-wrong d s j u v) at different-left)
+
+      pub different-on : {k : ℕ} → x ≡ More k → Different t s a₀ b n (namesOf (elementsFrom d s k))
+      different-on v = rw (element-after-more d s j u v) at different-left
+
+pub ruleset naming = (chained, past-is, element-less, must-none, must-some, may-none, may-some, name-missing, name-string, name-other, later-done, later-wrong, later-found, later-on, again-full, grown-fits, added-twice, added-once, different-none, different-some, different-long, different-not, different-done, different-wrong, different-on)
 
 -- ## lists by name
 -- a member that must be a string

@@ -91,21 +91,21 @@ pub fn has_type(s: &[u8], at: usize, kind: &[u8]) -> bool
     string_is(s, p + 1, kind)
 }
 
-fn is_list(s: &[u8], at: usize) -> bool
+fn is_list(s: &[u8], at: usize, area: &mut [u64]) -> bool
     ensures { λ r. ⌜ r ≡ listOk (treeAt 13 (now (s .entry)) at) ⌝ }
 {
     if has_type(s, at, b"ipv4-acl-type") {
-        return is_nested(s, at, 13, b"aces", b"ace");
+        return is_nested(s, at, 13, b"aces", b"ace", area);
     }
     has_type(s, at, b"ipv6-acl-type")
 }
 
 // Whether an element of a policy names a list that there is, and that is one.
-pub fn names_list(s: &[u8], lists: Found, n: usize) -> bool
+pub fn names_list(s: &[u8], lists: Found, n: usize, area: &mut [u64]) -> bool
     ensures { λ r. ⌜ r ≡ namedOk (itemsFrom 13 (now (s .entry)) lists) (treeAt 11 (now (s .entry)) n) ⌝ }
 {
     match list_of(s, lists, n) {
         Found::Missing => false,
-        Found::At(at) => is_list(s, at),
+        Found::At(at) => is_list(s, at, area),
     }
 }

@@ -4,7 +4,10 @@ use header::asked::must_be;
 use json::Next;
 use json::space::skip;
 use text::bytes::byte_at;
+use values::Entry;
 use values::Found;
+use values::names::enter;
+use values::names::grown;
 use values::plain;
 use values::strings::same_string;
 use values::walk::first_item;
@@ -12,12 +15,16 @@ use values::walk::inner;
 use values::walk::member;
 use values::walk::next_element;
 ghost use mathlib.Core.Path.{_≡_};
+ghost use Prim.Native.Nat.{_≤_};
+ghost use lib.ListN.{length};
 ghost use Rattle.text.specs.Ascii.{ascii};
 ghost use Rattle.values.specs.Decode.{bytesAt};
 ghost use Rattle.values.specs.Tree.{treeAt, lookup, items, elementsAfter};
 ghost use Rattle.values.specs.Rules.{all};
+ghost use Rattle.values.specs.Names.{Rising};
 ghost use Rattle.header.specs.Asked.{isAmong};
 ghost use Rattle.lists.specs.Lists.{hasStringName, nameOf, namesOf, allDifferent, namedArray, innerOk, nestedOk};
+ghost use Rattle.lists.specs.Names.{againOf, Added};
 
 // The first character of an element's name; the end of the text, where nothing stands, if it has none.
 pub fn name_of(s: &[u8], at: usize, depth: usize) -> usize
@@ -55,7 +62,38 @@ fn is_later(s: &[u8], at: usize, depth: usize, i: usize) -> bool
     }
 }
 
-fn all_different(s: &[u8], at: usize, depth: usize) -> bool
+// Whether an element's name stands twice, after it was entered among those before it.
+fn is_again(s: &[u8], at: usize, depth: usize, i: usize, r: Entry) -> bool
+    ensures { λ t. ⌜ t ≡ againOf (isAmong (bytesAt (now (s .entry)) i) (namesOf (elementsAfter depth (now (s .entry)) at))) r ⌝ }
+{
+    match r {
+        Entry::Known => true,
+        Entry::Kept => false,
+        Entry::Full => is_later(s, at, depth, i),
+    }
+}
+
+// An element's name beside those of the elements before it: it stands twice, or they are so many with it.
+pub enum Beside {
+    Twice,
+    Once(usize),
+}
+
+// One name more, beside `hi` that are kept.
+fn add_name(s: &[u8], at: usize, depth: usize, area: &mut [u64], hi: usize) -> Beside
+    requires { ⌜ (hi ≤ length (now area)) × Rising (now s) (now area) 0 hi ⌝ }
+    ensures { λ r. ⌜ Added depth (now (s .entry)) at (now (area .entry)) hi (now (area .exit)) r ⌝ }
+{
+    let i = name_of(s, skip(s, at), depth);
+    let r = enter(s, i, area, 0, hi);
+    if is_again(s, at, depth, i, r) {
+        return Beside::Twice;
+    }
+    Beside::Once(grown(hi, r))
+}
+
+// What `area` held is lost; of any length the answer is the same, and with as many places as elements it comes quickly.
+fn all_different(s: &[u8], at: usize, depth: usize, area: &mut [u64]) -> bool
     ensures { λ r. ⌜ r ≡ allDifferent (namesOf (items (treeAt depth (now (s .entry)) at))) ⌝ }
 {
     let Found::At(first) = first_item(s, at, depth) else {
@@ -63,10 +101,12 @@ fn all_different(s: &[u8], at: usize, depth: usize) -> bool
     };
     let d = inner(depth);
     let mut j = first;
+    let mut hi = 0;
     loop {
-        if is_later(s, j, d, name_of(s, skip(s, j), d)) {
+        let Beside::Once(n) = add_name(s, j, d, area, hi) else {
             return false;
-        }
+        };
+        hi = n;
         match next_element(s, j, d) {
             Next::Done(_) => {
                 return true;
@@ -114,7 +154,7 @@ fn all_have_names(s: &[u8], at: usize, depth: usize) -> bool
 }
 
 // An array of objects, each with a string as its name, no name twice.
-fn is_named_array(s: &[u8], at: usize, depth: usize) -> bool
+fn is_named_array(s: &[u8], at: usize, depth: usize, area: &mut [u64]) -> bool
     ensures { λ r. ⌜ r ≡ namedArray (treeAt depth (now (s .entry)) at) ⌝ }
 {
     if !plain::is_array(s, at, depth) {
@@ -123,10 +163,10 @@ fn is_named_array(s: &[u8], at: usize, depth: usize) -> bool
     if !all_have_names(s, at, depth) {
         return false;
     }
-    all_different(s, at, depth)
+    all_different(s, at, depth, area)
 }
 
-fn is_inner(s: &[u8], at: usize, depth: usize, name: &[u8]) -> bool
+fn is_inner(s: &[u8], at: usize, depth: usize, name: &[u8], area: &mut [u64]) -> bool
     ensures { λ r. ⌜ r ≡ innerOk (now (name .entry)) (treeAt depth (now (s .entry)) at) ⌝ }
 {
     if !plain::is_object(s, at, depth) {
@@ -134,16 +174,23 @@ fn is_inner(s: &[u8], at: usize, depth: usize, name: &[u8]) -> bool
     }
     match member(s, at, depth, name) {
         Found::Missing => true,
-        Found::At(p) => is_named_array(s, p, inner(depth)),
+        Found::At(p) => is_named_array(s, p, inner(depth), area),
     }
 }
 
 // An object that may have a member `outer`, which is an object that may have a member `name`, a named array.
-pub fn is_nested(s: &[u8], at: usize, depth: usize, outer: &[u8], name: &[u8]) -> bool
+pub fn is_nested(
+    s: &[u8],
+    at: usize,
+    depth: usize,
+    outer: &[u8],
+    name: &[u8],
+    area: &mut [u64],
+) -> bool
     ensures { λ r. ⌜ r ≡ nestedOk (now (outer .entry)) (now (name .entry)) (treeAt depth (now (s .entry)) at) ⌝ }
 {
     match member(s, at, depth, outer) {
         Found::Missing => true,
-        Found::At(p) => is_inner(s, p, inner(depth), name),
+        Found::At(p) => is_inner(s, p, inner(depth), name, area),
     }
 }

@@ -23,21 +23,21 @@ pub fn policy_of(s: &[u8], mud: usize, d: Direction) -> Found
     }
 }
 
-fn is_policy(s: &[u8], at: usize) -> bool
+fn is_policy(s: &[u8], at: usize, area: &mut [u64]) -> bool
     ensures { λ r. ⌜ r ≡ policyShape (treeAt 14 (now (s .entry)) at) ⌝ }
 {
     if !plain::is_object(s, at, 14) {
         return false;
     }
-    is_nested(s, at, 14, b"access-lists", b"access-list")
+    is_nested(s, at, 14, b"access-lists", b"access-list", area)
 }
 
-fn may_be_policy(s: &[u8], mud: usize, d: Direction) -> bool
+fn may_be_policy(s: &[u8], mud: usize, d: Direction, area: &mut [u64]) -> bool
     ensures { λ r. ⌜ r ≡ policyOk d (treeAt 15 (now (s .entry)) mud) ⌝ }
 {
     match policy_of(s, mud, d) {
         Found::Missing => true,
-        Found::At(p) => is_policy(s, p),
+        Found::At(p) => is_policy(s, p, area),
     }
 }
 
@@ -58,12 +58,12 @@ pub fn lists_of(s: &[u8], at: usize) -> Found
     nested_at(s, at, 16, b"ietf-access-control-list:acls", b"acl")
 }
 
-fn all_name_lists(s: &[u8], at: usize, lists: Found) -> bool
+fn all_name_lists(s: &[u8], at: usize, lists: Found, area: &mut [u64]) -> bool
     ensures { λ r. ⌜ r ≡ all (namedOk (itemsFrom 13 (now (s .entry)) lists)) (elementsFrom 11 (now (s .entry)) at) ⌝ }
 {
     let mut j = at;
     loop {
-        if !names_list(s, lists, skip(s, j)) {
+        if !names_list(s, lists, skip(s, j), area) {
             return false;
         }
         match next_element(s, j, 11) {
@@ -80,36 +80,37 @@ fn all_name_lists(s: &[u8], at: usize, lists: Found) -> bool
     }
 }
 
-fn is_direction(s: &[u8], file: usize, mud: usize, d: Direction) -> bool
+fn is_direction(s: &[u8], file: usize, mud: usize, d: Direction, area: &mut [u64]) -> bool
     ensures { λ r. ⌜ r ≡ directionOk d (treeAt 16 (now (s .entry)) file) (treeAt 15 (now (s .entry)) mud) ⌝ }
 {
-    if !may_be_policy(s, mud, d) {
+    if !may_be_policy(s, mud, d, area) {
         return false;
     }
     match policy_lists(s, mud, d) {
         Found::Missing => true,
-        Found::At(at) => all_name_lists(s, at, lists_of(s, file)),
+        Found::At(at) => all_name_lists(s, at, lists_of(s, file), area),
     }
 }
 
-fn are_both(s: &[u8], file: usize, mud: usize) -> bool
+fn are_both(s: &[u8], file: usize, mud: usize, area: &mut [u64]) -> bool
     ensures { λ r. ⌜ r ≡ bothOk (treeAt 16 (now (s .entry)) file) (treeAt 15 (now (s .entry)) mud) ⌝ }
 {
-    if !is_direction(s, file, mud, Direction::FromDevice) {
+    if !is_direction(s, file, mud, Direction::FromDevice, area) {
         return false;
     }
-    is_direction(s, file, mud, Direction::ToDevice)
+    is_direction(s, file, mud, Direction::ToDevice, area)
 }
 
-pub fn are_policies(s: &[u8]) -> bool
+// What `area` held is lost; its length changes the time that this takes, and never the answer.
+pub fn are_policies(s: &[u8], area: &mut [u64]) -> bool
     ensures { λ r. ⌜ r ≡ policiesOk (treeOf 16 (now (s .entry))) ⌝ }
 {
     let file = skip(s, 0);
-    if !is_nested(s, file, 16, b"ietf-access-control-list:acls", b"acl") {
+    if !is_nested(s, file, 16, b"ietf-access-control-list:acls", b"acl", area) {
         return false;
     }
     match member(s, file, 16, b"ietf-mud:mud") {
         Found::Missing => false,
-        Found::At(mud) => are_both(s, file, mud),
+        Found::At(mud) => are_both(s, file, mud, area),
     }
 }

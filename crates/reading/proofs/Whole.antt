@@ -16,7 +16,8 @@ use Rattle.values.specs.Decode.{bytesAt}
 use Rattle.values.specs.Tree.{Json, treeAt, treeOf, lookup, seen}
 use Rattle.lists.specs.Lists.{entriesOf}
 use Rattle.naming.specs.Masks.{networkWords}
-use Rattle.rules.specs.Meaning.{bytesIn, urlOf}
+use Rattle.rules.specs.Meaning.{urlOf}
+use Rattle.values.specs.Rules.{bytesIn}
 use Rattle.rules.specs.Names.{StringAt}
 use Rattle.rules.specs.Defaults.{dnsWords, ntpWords}
 use Rattle.reading.specs.declared.Tally.{Tally}

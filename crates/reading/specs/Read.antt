@@ -12,7 +12,8 @@ use Rattle.flows.specs.declared.Direction.the-variants.{FromDevice, ToDevice}
 use Rattle.values.specs.Tree.{Json, lookup}
 use Rattle.lists.specs.Lists.{entriesNamed, listsOf, policyLists, entriesOf}
 use Rattle.naming.specs.Masks.{networkWords}
-use Rattle.rules.specs.Meaning.{bytesIn, urlOf}
+use Rattle.rules.specs.Meaning.{urlOf}
+use Rattle.values.specs.Rules.{bytesIn}
 use Rattle.rules.specs.Defaults.{dnsWords, ntpWords}
 use Rattle.reading.specs.declared.Tally.{Tally}
 use Rattle.reading.specs.Walked.{seeAll, putAll, rowsOf}

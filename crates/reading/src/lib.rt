@@ -1,4 +1,6 @@
 // The entries of both directions, read in one walk: numbers 9, 10 and 11, and the rules of which the table is built.
+use entries::places::Parts;
+use entries::places::parts_of;
 use flows::Direction;
 use json::Next;
 use json::space::skip;
@@ -23,6 +25,7 @@ ghost use Rattle.values.specs.Decode.{bytesAt};
 ghost use Rattle.values.specs.Tree.{treeAt, treeOf, seen, itemsFrom, elementsFrom};
 ghost use Rattle.site.specs.Site.{lines};
 ghost use Rattle.lists.specs.Lists.{toList, entriesIn, entriesNamed, listNamed, listsOf, policyLists};
+ghost use Rattle.entries.specs.Places.{PartsOf};
 ghost use Rattle.rules.specs.Rows.{ruleWords};
 ghost use Rattle.reading.specs.Walked.{more, see, putAt, Walked};
 ghost use Rattle.reading.specs.Read.{putDefaults, BothWalked, EntriesRead, ReadIn};
@@ -53,12 +56,13 @@ fn more(n: usize) -> usize
 }
 
 // Numbers 9 and 10 of the entry at a place.
-fn see(s: &[u8], entry: usize, d: Direction, t: Tally) -> Tally
+fn see(s: &[u8], entry: usize, e: Parts, d: Direction, t: Tally) -> Tally
+    requires { ⌜ PartsOf (now s) entry e ⌝ }
     ensures { λ r. ⌜ r ≡ see d (treeAt 10 (now (s .entry)) entry) t ⌝ }
 {
     Tally {
-        known: both(t.known, entries::known::is_known(s, entry)),
-        sound: both(t.sound, entries::sound::is_sound(s, entry, d)),
+        known: both(t.known, entries::known::is_known(s, entry, e)),
+        sound: both(t.sound, entries::sound::is_sound(s, entry, e, d)),
         count: more(t.count),
     }
 }
@@ -69,16 +73,17 @@ fn put_entry(
     site: &[u8],
     work: &mut [u64],
     entry: usize,
+    e: Parts,
     d: Direction,
     url: usize,
     k: usize,
 )
-    requires { ⌜ length (lines (now site) 0) ≤ 64 ⌝ }
+    requires { ⌜ (length (lines (now site) 0) ≤ 64) × PartsOf (now s) entry e ⌝ }
     ensures { λ _. ⌜ now (work .exit) ≡ putAt k (ruleWords d (now (site .entry)) (bytesAt (now (s .entry)) url) (treeAt 10 (now (s .entry)) entry)) (now (work .entry)) ⌝ }
 {
     if k < 64 {
         let at = 169 + 21 * k;
-        put_rule(s, site, work, at, entry, d, url);
+        put_rule(s, site, work, at, entry, e, d, url);
     }
 }
 
@@ -94,8 +99,9 @@ fn read_entry(
     requires { ⌜ length (lines (now site) 0) ≤ 64 ⌝ }
     ensures { λ r. ⌜ Walked d (now (site .entry)) (bytesAt (now (s .entry)) url) (treeAt 10 (now (s .entry)) entry ∷ []) t (now (work .entry)) r (now (work .exit)) ⌝ }
 {
-    put_entry(s, site, work, entry, d, url, t.count);
-    see(s, entry, d, t)
+    let e = parts_of(s, entry);
+    put_entry(s, site, work, entry, e, d, url, t.count);
+    see(s, entry, e, d, t)
 }
 
 // The entries from the one that begins at a place on.

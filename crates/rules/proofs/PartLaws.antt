@@ -28,8 +28,8 @@ use Rattle.values.proofs.Trees.{tree-string}
 use Rattle.values.proofs.Sorts.{string-kind}
 use Rattle.header.specs.Asked.{isNetwork, netIn}
 use Rattle.entries.specs.Sound.{remoteNetwork}
-use Rattle.rules.specs.Meaning.{bytesIn}
-use Rattle.rules.specs.Parts.{under, numberOr, protocolIn, protocols, openerIn, openers, networkIn, networks, transport}
+use Rattle.values.specs.Rules.{bytesIn, under}
+use Rattle.rules.specs.Parts.{numberOr, protocolIn, protocols, openerIn, openers, networkIn, networks, transport}
 use Rattle.rules.specs.declared.parts.Between.{Between}
 
 abbrev span : ℕ → ℕ → Between

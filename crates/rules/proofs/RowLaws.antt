@@ -21,7 +21,7 @@ use Rattle.json.proofs.Runs.{past-is}
 use Rattle.values.specs.declared.Found.{Found}
 use Rattle.values.specs.declared.Found.the-variants.{At, Missing}
 use Rattle.values.specs.Decode.{bytesAt, pieceAt}
-use Rattle.values.specs.Rules.{must, text}
+use Rattle.values.specs.Rules.{must, text, bytesIn, under}
 use Rattle.values.specs.Tree.{Json, Maybe, none, some, treeAt, lookup, seen}
 use Rattle.values.proofs.Decoding.{string-turn}
 use Rattle.values.proofs.Trees.{tree-string}
@@ -36,9 +36,9 @@ use Rattle.naming.specs.Wanted.{kindOf, testOf}
 use Rattle.naming.specs.declared.wanted.Wanted.{Wanted}
 use Rattle.naming.specs.declared.wanted.Wanted.the-variants.{Host, Class, Mine, Local, Model, Maker, Kin}
 use Rattle.entries.specs.Sound.{remoteName}
-use Rattle.rules.specs.Meaning.{bytesIn, entryAccepts}
+use Rattle.rules.specs.Meaning.{entryAccepts}
 use Rattle.rules.specs.Ports.{oneRange, portsOf, portsIn}
-use Rattle.rules.specs.Parts.{under, protocols, openers, networks, transport}
+use Rattle.rules.specs.Parts.{protocols, openers, networks, transport}
 use Rattle.rules.specs.Names.{StringAt, maskIf, masked, thingMasks, classMask, nullMasks, hostMask, maskWords}
 use Rattle.rules.specs.Rows.{portSides, directionSpan, rowOf, spanWords, portsWords, frontWords, backWords, rowWords, limitWords, ruleWords}
 use Rattle.rules.specs.Defaults.{defaultRow, defaultWords, dnsWords, ntpWords}

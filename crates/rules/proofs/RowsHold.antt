@@ -24,7 +24,7 @@ use Rattle.builder.specs.Encoding.{lowOf, highOf, rangeOf, namedBy, nameLimits,
 use Rattle.values.specs.declared.Count.{Count}
 use Rattle.values.specs.declared.Count.the-variants.{Is, Not}
 use Rattle.values.specs.Tree.{Json, null, bool, integer, real, string, array, object, Maybe, none, some, lookup, countOf, isObject}
-use Rattle.values.specs.Rules.{must, may, within, text}
+use Rattle.values.specs.Rules.{must, may, within, text, bytesIn, under, ifThere, orOther}
 use Rattle.site.specs.Site.{lines}
 use Rattle.site.specs.Url.{authorityOf, sameHost, sameAuthority, sameName}
 use Rattle.site.specs.declared.lines.Kind.{Kind}
@@ -36,10 +36,10 @@ use Rattle.header.specs.Asked.{isNetwork, wholeNet, netIn, spelt, obeys}
 use Rattle.header.specs.declared.asked.Asked.the-variants.{Text, Nulls, Integer, Spelt, Nothing}
 use Rattle.header.specs.declared.asked.Form.the-variants.{Network, Initiator}
 use Rattle.entries.specs.Sound.{stringsOk, nullsOk, mudOk, remoteNetwork, remoteName, sidesNamed, sidesOk, ipv4Ok, portOk, portsOk, tcpOk, protocolIs, tcpBeside, udpBeside, transportOk, matchesOk, entryOk}
-use Rattle.rules.specs.Meaning.{bytesIn, equals, inNet, mudHolds, ipv4Holds, portHolds, sourceOf, destinationOf, portsHold, openerHolds, matchesHold, entryHolds, entryAccepts}
+use Rattle.rules.specs.Meaning.{equals, inNet, mudHolds, ipv4Holds, portHolds, sourceOf, destinationOf, portsHold, openerHolds, matchesHold, entryHolds, entryAccepts}
 use Rattle.rules.specs.Ports.{portNumber, oneRange, ranges, otherThan, byOperator, thenPorts, portsOf, portsIn, allPorts}
 use Rattle.rules.specs.Words.{rangesOf}
-use Rattle.rules.specs.Parts.{under, ifThere, numberOr, protocolIn, protocols, openerIn, openers, netOr, networkIn, networks, transport, orOther}
+use Rattle.rules.specs.Parts.{numberOr, protocolIn, protocols, openerIn, openers, netOr, networkIn, networks, transport}
 use Rattle.rules.specs.Names.{maskIf, masked, makerMask, modelMask, controllerMask, kinMask, localMask, mineMask, dnsMask, thingMasks, classMask, nullMasks, hostMask, maskWords}
 use Rattle.rules.specs.Rows.{portSides, rowOf, spanWords, portsWords, rowWords, limitWords, ruleWords}
 use Rattle.rules.specs.Defaults.{defaultRow, defaultWords}

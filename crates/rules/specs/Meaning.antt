@@ -19,7 +19,7 @@ use Rattle.site.specs.Url.{authorityOf}
 use Rattle.values.specs.declared.Count.{Count}
 use Rattle.values.specs.declared.Count.the-variants.{Is, Not}
 use Rattle.values.specs.Tree.{Json, null, bool, integer, real, string, array, object, Maybe, none, some, lookup, countOf}
-use Rattle.values.specs.Rules.{must, may, text}
+use Rattle.values.specs.Rules.{must, may, text, under, bytesIn}
 use Rattle.lists.specs.Lists.{entriesOf}
 use Rattle.entries.specs.Sound.{remoteNetwork, remoteName}
 use Rattle.naming.specs.Named.{isHost, isClass, isMine, isLocal, isMadeBy, isModel}
@@ -135,22 +135,8 @@ orElse silent b = b
 orElse (said a) b = a
 
 -- the file's own URL
-abbrev pub bytesIn : Maybe → List ℕ
-bytesIn none = []
-bytesIn (some null) = []
-bytesIn (some (bool b)) = []
-bytesIn (some (integer n)) = []
-bytesIn (some real) = []
-bytesIn (some (string b)) = b
-bytesIn (some (array es)) = []
-bytesIn (some (object ms)) = []
-
-abbrev pub inside : Maybe → (Json → Maybe) → Maybe
-inside none f = none
-inside (some j) f = f j
-
 unfoldable pub urlOf : Json → List ℕ
-urlOf file = bytesIn (inside (lookup (ascii "ietf-mud:mud") file) (lookup (ascii "mud-url")))
+urlOf file = bytesIn (under (ascii "mud-url") (lookup (ascii "ietf-mud:mud") file))
 
 -- entries of the flow's own direction only
 unfoldable pub directionSays : Direction → List ℕ → Json → Point → Said

@@ -14,8 +14,7 @@ use Rattle.site.specs.declared.lines.Kind.the-variants.{Host, Class, Mine, Loca
 use Rattle.naming.specs.Named.{names}
 use Rattle.naming.specs.Masks.{namedMask}
 use Rattle.entries.specs.Sound.{remoteName}
-use Rattle.rules.specs.Meaning.{bytesIn}
-use Rattle.rules.specs.Parts.{under, ifThere}
+use Rattle.values.specs.Rules.{bytesIn, under, ifThere}
 
 -- the string that was found, whatever the depth
 pub record StringAt (s : List ℕ) (found : Found) (r : ℕ) : Type 0 where

@@ -10,23 +10,14 @@ use Rattle.text.specs.declared.networks.Block.the-variants.{Net, NoNet}
 use Rattle.flows.specs.declared.Direction.{Direction}
 use Rattle.values.specs.declared.Count.{Count}
 use Rattle.values.specs.declared.Count.the-variants.{Is, Not}
-use Rattle.values.specs.Tree.{Maybe, none, some, lookup, countOf}
+use Rattle.values.specs.Tree.{Maybe, none, some, countOf}
+use Rattle.values.specs.Rules.{under, orOther, ifThere, bytesIn}
 use Rattle.header.specs.Asked.{netIn}
 use Rattle.entries.specs.Sound.{remoteNetwork}
-use Rattle.rules.specs.Meaning.{inside, bytesIn}
 use Rattle.rules.specs.declared.parts.Between.{Between}
 
 abbrev pub between : ℕ → ℕ → Between
 between a b = record { low = a; high = b }
-
--- the member of that name in what was found
-abbrev pub under : List ℕ → Maybe → Maybe
-under name m = inside m (lookup name)
-
--- one thing where it is there, another where not
-abbrev pub ifThere : {A : Type 0} → Maybe → A → A → A
-ifThere none x y = y
-ifThere (some j) x y = x
 
 abbrev pub numberOr : Count → Between → Between
 numberOr Not z = z
@@ -61,9 +52,5 @@ unfoldable pub networks : Direction → Maybe → Between
 networks d m = networkIn (under (remoteNetwork d) (under (ascii "ipv4") m))
 
 -- `tcp` or `udp`, whichever is there
-abbrev pub orOther : Maybe → Maybe → Maybe
-orOther none b = b
-orOther (some j) b = some j
-
 unfoldable pub transport : Maybe → Maybe
 transport m = orOther (under (ascii "tcp") m) (under (ascii "udp") m)

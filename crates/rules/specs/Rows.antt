@@ -10,7 +10,8 @@ use Rattle.flows.specs.declared.Direction.the-variants.{FromDevice, ToDevice}
 use Rattle.values.specs.Tree.{Json, Maybe, lookup}
 use Rattle.rules.specs.Meaning.{entryAccepts}
 use Rattle.rules.specs.Ports.{portsIn}
-use Rattle.rules.specs.Parts.{between, under, protocols, openers, networks, transport}
+use Rattle.rules.specs.Parts.{between, protocols, openers, networks, transport}
+use Rattle.values.specs.Rules.{under}
 use Rattle.rules.specs.Names.{maskWords}
 use Rattle.rules.specs.declared.parts.Between.{Between}
 use Rattle.rules.specs.declared.ports.Ports.{Ports}

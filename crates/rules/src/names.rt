@@ -1,5 +1,6 @@
 // The names of an entry, as masks over the site's lines: one word for each name that is given, one after the other.
 use crate::parts::member_in;
+use entries::places::Parts;
 use flows::Direction;
 use naming::masks::mask;
 use naming::wanted::Wanted;
@@ -17,7 +18,8 @@ ghost use Rattle.naming.specs.Named.{names};
 ghost use Rattle.naming.specs.Masks.{namedMask};
 ghost use Rattle.naming.specs.Wanted.{kindOf, testOf};
 ghost use Rattle.entries.specs.Sound.{remoteName};
-ghost use Rattle.rules.specs.Parts.{under};
+ghost use Rattle.entries.specs.Places.{Held};
+ghost use Rattle.values.specs.Rules.{under};
 ghost use Rattle.rules.specs.Names.{StringAt, maskIf, thingMasks, classMask, nullMasks, hostMask, maskWords};
 
 // The first character of the string that was found; the end of the text, where nothing stands, if there is none.
@@ -148,17 +150,18 @@ pub fn put_names(
     work: &mut [u64],
     at: usize,
     found: Found,
+    e: Parts,
     d: Direction,
     url: usize,
 ) -> usize
-    requires { ⌜ (length (lines (now site) 0) ≤ 64) × (at ≤ 2000) ⌝ }
+    requires { ⌜ (length (lines (now site) 0) ≤ 64) × (at ≤ 2000) × Held (now s) found e ⌝ }
     ensures { λ r. ⌜ Put (now (work .entry)) at (maskWords d (now (site .entry)) (bytesAt (now (s .entry)) url) (seen (treeAt 9 (now (s .entry))) found)) r (now (work .exit)) ⌝ }
     ensures { λ r. ⌜ r ≤ at + 7 ⌝ }
 {
-    let mud = member_in(s, found, 9, b"ietf-mud:mud");
+    let mud = e.mud;
+    let ipv4 = e.ipv4;
     let p = put_things(s, site, work, at, mud);
     let q = put_class(s, site, work, p, mud);
     let r = put_nulls(s, site, work, q, mud, url);
-    let ipv4 = member_in(s, found, 9, b"ipv4");
     put_host(s, site, work, r, ipv4, d)
 }

@@ -1,4 +1,5 @@
 // The parts of an entry, one for each dimension, as ranges.
+use entries::places::Parts;
 use flows::Direction;
 use header::strings;
 use text::bytes::byte_at;
@@ -12,7 +13,9 @@ ghost use mathlib.Core.Path.{_≡_};
 ghost use Prim.Native.Nat.{_-_};
 ghost use Rattle.values.specs.Tree.{treeAt, seen};
 ghost use Rattle.entries.specs.Sound.{remoteNetwork};
-ghost use Rattle.rules.specs.Parts.{under, numberOr, protocolIn, protocols, openerIn, openers, networkIn, networks, transport};
+ghost use Rattle.entries.specs.Places.{Held};
+ghost use Rattle.rules.specs.Parts.{numberOr, protocolIn, protocols, openerIn, openers, networkIn, networks, transport};
+ghost use Rattle.values.specs.Rules.{under};
 
 // A range of numbers, both ends in it.
 pub struct Between {
@@ -54,17 +57,20 @@ fn protocol_in(s: &[u8], found: Found) -> Between
     }
 }
 
-// The protocols of the matches that were found.
-pub fn protocols_of(s: &[u8], found: Found) -> Between
+// The protocols of the matches that were found; `e` has where their members stand.
+pub fn protocols_of(s: &[u8], found: Found, e: Parts) -> Between
+    requires { ⌜ Held (now s) found e ⌝ }
     ensures { λ r. ⌜ r ≡ protocols (seen (treeAt 9 (now (s .entry))) found) ⌝ }
 {
-    if let Found::At(_) = member_in(s, found, 9, b"tcp") {
+    let tcp = e.tcp;
+    if let Found::At(_) = tcp {
         return Between { low: 6, high: 6 };
     }
-    if let Found::At(_) = member_in(s, found, 9, b"udp") {
+    let udp = e.udp;
+    if let Found::At(_) = udp {
         return Between { low: 17, high: 17 };
     }
-    let ipv4 = member_in(s, found, 9, b"ipv4");
+    let ipv4 = e.ipv4;
     protocol_in(s, member_in(s, ipv4, 8, b"protocol"))
 }
 
@@ -83,10 +89,11 @@ fn opener_in(s: &[u8], found: Found) -> Between
     Between { low: 1, high: 1 }
 }
 
-pub fn openers_of(s: &[u8], found: Found) -> Between
+pub fn openers_of(s: &[u8], found: Found, e: Parts) -> Between
+    requires { ⌜ Held (now s) found e ⌝ }
     ensures { λ r. ⌜ r ≡ openers (seen (treeAt 9 (now (s .entry))) found) ⌝ }
 {
-    let tcp = member_in(s, found, 9, b"tcp");
+    let tcp = e.tcp;
     opener_in(s, member_in(s, tcp, 8, b"ietf-mud:direction-initiated"))
 }
 
@@ -127,19 +134,23 @@ fn remote_network(s: &[u8], ipv4: Found, d: Direction) -> Found
     }
 }
 
-pub fn networks_of(s: &[u8], found: Found, d: Direction) -> Between
+pub fn networks_of(s: &[u8], found: Found, e: Parts, d: Direction) -> Between
+    requires { ⌜ Held (now s) found e ⌝ }
     ensures { λ r. ⌜ r ≡ networks d (seen (treeAt 9 (now (s .entry))) found) ⌝ }
 {
-    let ipv4 = member_in(s, found, 9, b"ipv4");
+    let ipv4 = e.ipv4;
     network_in(s, remote_network(s, ipv4, d))
 }
 
 // `tcp` or `udp`, whichever is there.
-pub fn transport_of(s: &[u8], found: Found) -> Found
+pub fn transport_of(s: &[u8], found: Found, e: Parts) -> Found
+    requires { ⌜ Held (now s) found e ⌝ }
     ensures { λ r. ⌜ transport (seen (treeAt 9 (now (s .entry))) found) ≡ seen (treeAt 8 (now (s .entry))) r ⌝ }
 {
-    match member_in(s, found, 9, b"tcp") {
+    let tcp = e.tcp;
+    let udp = e.udp;
+    match tcp {
         Found::At(p) => Found::At(p),
-        Found::Missing => member_in(s, found, 9, b"udp"),
+        Found::Missing => udp,
     }
 }

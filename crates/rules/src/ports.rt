@@ -11,7 +11,7 @@ ghost use Rattle.text.specs.Ascii.{ascii};
 ghost use Rattle.values.specs.Decode.{bytesAt};
 ghost use Rattle.values.specs.Tree.{treeAt, lookup, seen, countOf};
 ghost use Rattle.rules.specs.Meaning.{operatorOf};
-ghost use Rattle.rules.specs.Parts.{under};
+ghost use Rattle.values.specs.Rules.{under};
 ghost use Rattle.rules.specs.Ports.{portNumber, oneRange, otherThan, byOperator, thenPorts, portsOf, portsIn};
 
 // Two ranges, one of which must hold the port.

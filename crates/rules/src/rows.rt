@@ -2,13 +2,13 @@
 use crate::names::put_names;
 use crate::names::put_word;
 use crate::parts::Between;
-use crate::parts::member_in;
 use crate::parts::networks_of;
 use crate::parts::openers_of;
 use crate::parts::protocols_of;
 use crate::parts::transport_of;
 use crate::ports::Ports;
 use crate::ports::ports_under;
+use entries::places::Parts;
 use flows::Direction;
 use flows::direction_number;
 use text::bytes::byte_at;
@@ -24,6 +24,7 @@ ghost use Rattle.values.specs.Decode.{bytesAt};
 ghost use Rattle.values.specs.Tree.{treeAt, lookup, seen};
 ghost use Rattle.text.specs.Ascii.{ascii};
 ghost use Rattle.site.specs.Site.{lines};
+ghost use Rattle.entries.specs.Places.{Held, PartsOf};
 ghost use Rattle.rules.specs.Meaning.{entryAccepts};
 ghost use Rattle.rules.specs.Rows.{spanWords, portsWords, directionSpan, portSides, rowOf, frontWords, backWords, rowWords, limitWords, ruleWords};
 
@@ -61,10 +62,12 @@ fn port_sides(s: &[u8], transport: Found, d: Direction) -> PortSides
     }
 }
 
-fn is_accepted(s: &[u8], entry: usize) -> bool
+fn is_accepted(s: &[u8], entry: usize, e: Parts) -> bool
+    requires { ⌜ PartsOf (now s) entry e ⌝ }
     ensures { λ r. ⌜ r ≡ entryAccepts (treeAt 10 (now (s .entry)) entry) ⌝ }
 {
-    let Found::At(actions) = member(s, entry, 10, b"actions") else {
+    let found = e.actions;
+    let Found::At(actions) = found else {
         return false;
     };
     let Found::At(p) = member(s, actions, 9, b"forwarding") else {
@@ -83,16 +86,17 @@ fn only(d: Direction) -> Between
     Between { low: n, high: n }
 }
 
-fn row_of(s: &[u8], accepts: bool, found: Found, d: Direction) -> Row
+fn row_of(s: &[u8], accepts: bool, found: Found, e: Parts, d: Direction) -> Row
+    requires { ⌜ Held (now s) found e ⌝ }
     ensures { λ r. ⌜ r ≡ rowOf accepts d (seen (treeAt 9 (now (s .entry))) found) ⌝ }
 {
     Row {
         accepts: accepts,
         direction: only(d),
-        protocols: protocols_of(s, found),
-        openers: openers_of(s, found),
-        networks: networks_of(s, found, d),
-        ports: port_sides(s, transport_of(s, found), d),
+        protocols: protocols_of(s, found, e),
+        openers: openers_of(s, found, e),
+        networks: networks_of(s, found, e, d),
+        ports: port_sides(s, transport_of(s, found, e), d),
     }
 }
 
@@ -163,33 +167,35 @@ fn put_limits(
     work: &mut [u64],
     at: usize,
     found: Found,
+    e: Parts,
     d: Direction,
     url: usize,
 ) -> usize
-    requires { ⌜ (length (lines (now site) 0) ≤ 64) × (at ≤ 1900) ⌝ }
+    requires { ⌜ (length (lines (now site) 0) ≤ 64) × (at ≤ 1900) × Held (now s) found e ⌝ }
     ensures { λ r. ⌜ Put (now (work .entry)) at (limitWords d (now (site .entry)) (bytesAt (now (s .entry)) url) (seen (treeAt 9 (now (s .entry))) found)) r (now (work .exit)) ⌝ }
 {
     let first = at + 1;
-    let end = put_names(s, site, work, first, found, d, url);
+    let end = put_names(s, site, work, first, found, e, d, url);
     put_word(work, at, (end - first) as u64);
     end
 }
 
-// The rule of the entry at a place; the place after it.
+// The rule of the entry whose parts these are; the place after it.
 pub fn put_rule(
     s: &[u8],
     site: &[u8],
     work: &mut [u64],
     at: usize,
     entry: usize,
+    e: Parts,
     d: Direction,
     url: usize,
 ) -> usize
-    requires { ⌜ (length (lines (now site) 0) ≤ 64) × (at ≤ 1800) ⌝ }
+    requires { ⌜ (length (lines (now site) 0) ≤ 64) × (at ≤ 1800) × PartsOf (now s) entry e ⌝ }
     ensures { λ r. ⌜ Put (now (work .entry)) at (ruleWords d (now (site .entry)) (bytesAt (now (s .entry)) url) (treeAt 10 (now (s .entry)) entry)) r (now (work .exit)) ⌝ }
 {
-    let found = member(s, entry, 10, b"matches");
-    let row = row_of(s, is_accepted(s, entry), found, d);
+    let found = e.matches;
+    let row = row_of(s, is_accepted(s, entry, e), found, e, d);
     let p = put_row(work, at, row);
-    put_limits(s, site, work, p, found, d, url)
+    put_limits(s, site, work, p, found, e, d, url)
 }

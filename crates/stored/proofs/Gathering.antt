@@ -1,27 +1,24 @@
--- Laws of the lines gathered in words, and of the verdict. Assumes nothing.
+-- Laws of the lines of a text gathered by their marks, and of the verdict. Assumes nothing.
 use Prim.Native.Nat.{ℕ, zero, suc, _+_, _*_, _-_, _/_, _%_, _≤_, _<_}
 use native.Mathlib.Nat.{add-zero}
 use native.Mathlib.Numerals.{add-one}
 use native.Mathlib.Omega.{arith}
-use mathlib.Core.Path.{_≡_, refl, ap, sym, _∙_, subst}
-use mathlib.Core.List.{List, [], _∷_, _++_, append-assoc}
+use mathlib.Core.Path.{_≡_, refl, ap, sym, _∙_}
+use mathlib.Core.List.{List, [], _∷_}
 use mathlib.Core.Bool.{Bool, true, false, _&&_, _||_, not}
-use lib.ListN.{length, getD, take, drop, set, length-append, length-set, drop-of-length-le}
-use lib.Seq.{sets, length-sets, drop-cons, getD-set-same, getD-set-other, getD-take, length-take-le}
+use lib.ListN.{length, getD, drop, set, length-set, length-drop, drop-of-length-le}
+use lib.Seq.{drop-cons, getD-set-same, getD-set-other}
 use lib.Dec.{eqb, leb, ltb}
 use borrow.Author.Needs.{needs}
 use borrow.Author.Tests.{eq-eqb, ne-eqb, eqb-true, le-leb, lt-leb, ltb-true, ltb-false, not-true, not-false}
 use Rattle.text.specs.Bytes.{byteAt, between}
 use Rattle.text.specs.Numbers.{numberAt, closedBy}
-use Rattle.text.specs.Written.{Put}
 use Rattle.text.proofs.Tests.{by-test, and-left, and-right}
-use Rattle.text.proofs.WrittenLaws.{andThen}
 use Rattle.flows.specs.Table.{Point, Line, Table, inRange, inLine, inTable}
 use Rattle.flows.specs.Flow.{widths, isFlow}
 use Rattle.flows.specs.Canonical.{canonical}
 use Rattle.flows.specs.Numbers.{pointOf}
 use Rattle.flows.specs.declared.Numbers as numbers
-use Rattle.flows.proofs.Stored.{LineIn, AllLines}
 use Rattle.stored.specs.declared.lines.Line as struct
 use Rattle.stored.specs.declared.lines.Read.{Read}
 use Rattle.stored.specs.declared.lines.Read.the-variants.{Got, NoLine}
@@ -29,114 +26,112 @@ use Rattle.stored.specs.declared.verdict.Gathered.{Gathered}
 use Rattle.stored.specs.declared.answer.Verdict.the-variants.{NotTable, NotFlow, Accept, Drop}
 use Rattle.stored.specs.Line.{rangeAt, frontAt, lineAt, ranges}
 use Rattle.stored.specs.Stored.{lines, stop, allZero, storedOf, verdictOf}
-use Rattle.stored.specs.Words.{rangeOf, rangesOf, lineOf, linesOfWords, Fits}
-use Rattle.stored.specs.Groups.{rows}
+use Rattle.stored.specs.Words.{Fits}
+use Rattle.stored.specs.Groups.{row}
 use Rattle.stored.specs.Chunks.{EightAt}
-use Rattle.stored.specs.Gathered.{wordsOf, Gathering, AllGathered}
-use Rattle.stored.proofs.ReadLines.{got-sound, lines-none, lines-got, stop-none, stop-got}
-
--- ## words
-same-ranges : (n at : ℕ) (v w : List ℕ) → ((k : ℕ) → k < at + n → getD v k 0 ≡ getD w k 0) → rangesOf n v at ≡ rangesOf n w at
-unfolding rangesOf
-same-ranges zero at v w h = refl
-same-ranges (suc n) at v w h = rw (h at (omega arith), same-ranges n (at + 1) v w (λ k l. h k (omega arith)))
-
-same-words : (n at : ℕ) (v w : List ℕ) → ((k : ℕ) → k < at + 6 * n → getD v k 0 ≡ getD w k 0) → linesOfWords v at n ≡ linesOfWords w at n
-unfolding linesOfWords
-same-words zero at v w h = refl
-same-words (suc n) at v w h = rw (same-ranges 6 at v w (λ k l. h k (omega arith)), same-words n (at + 6) v w (λ k l. h k (omega arith)))
-
-pub length-lines : (n at : ℕ) (w : List ℕ) → length (linesOfWords w at n) ≡ n
-unfolding linesOfWords
-length-lines zero at w = refl
-length-lines (suc n) at w = ap suc (length-lines n (at + 6) w)
-
-words-last : (n at : ℕ) (w : List ℕ) → linesOfWords w at (suc n) ≡ linesOfWords w at n ++ (lineOf w (at + 6 * n) ∷ [])
-unfolding linesOfWords
-words-last zero at w = let p : at + 6 * 0 ≡ at = omega arith in rw p
-words-last (suc n) at w =
-    let p : at + 6 * suc n ≡ at + 6 + 6 * n = omega arith in
-    rw p (ap {B = Table} (λ t. lineOf w at ∷ t) (words-last n (at + 6) w))
-
--- what was there before a place stays, and what is put there is found there
-before-sets : (xs w : List ℕ) (e k : ℕ) → k < e → getD (sets w e xs) k 0 ≡ getD w k 0
-before-sets [] w e k h = refl
-before-sets (x ∷ xs) w e k h = before-sets xs (set w e x) (suc e) k (omega arith) ∙ getD-set-other w e k x 0 (λ q. omega arith)
-
-mapped : List ℕ → Line
-mapped [] = []
-mapped (x ∷ xs) = rangeOf x ∷ mapped xs
-
-sets-ranges : (xs w : List ℕ) (e : ℕ) → e + length xs ≤ length w → rangesOf (length xs) (sets w e xs) e ≡ mapped xs
-unfolding rangesOf mapped
-sets-ranges [] w e h = refl
-sets-ranges (x ∷ xs) w e h =
-    let l : length (set w e x) ≡ length w = length-set w e x in
-    let a : getD (sets (set w e x) (suc e) xs) e 0 ≡ x = before-sets xs (set w e x) (suc e) e (omega arith) ∙ getD-set-same w e x 0 (omega arith) in
-    rw (a, add-one e, sets-ranges xs (set w e x) (suc e) (omega arith))
-
-put-back : (w : List ℕ) (e : ℕ) (l : struct.Line) → e + 6 ≤ length w → lineOf (sets w e (wordsOf l)) e ≡ ranges l
-unfolding wordsOf ranges mapped
-put-back w e l h = sets-ranges (wordsOf l) w e h
+use Rattle.stored.specs.Marks.{Related, Mark, Marked, Gathering, AllGathered}
+use Rattle.stored.proofs.ReadLines.{SoundLine, got-sound, lines-none, lines-got, stop-none, stop-got}
 
 -- ## gathering
-pub put-words : {w m o q : List ℕ} {at p r t : ℕ} (a b c : ℕ) → Put w at (a ∷ []) p m → Put m p (b ∷ []) r o → Put o r (c ∷ []) t q → Put w at (a ∷ (b ∷ (c ∷ []))) t q
-put-words a b c x y z = andThen x (andThen y z)
-
-pub put-halves : {w m o : List ℕ} {at p r : ℕ} (l : struct.Line) → Put w at (l .direction ∷ (l .protocol ∷ (l .opener ∷ []))) p m → Put m p (l .address ∷ (l .remote ∷ (l .device ∷ []))) r o → Put w at (wordsOf l) r o
-unfolding wordsOf
-put-halves l x y = andThen x y
-
-append-none : (t : Table) → t ++ [] ≡ t
-append-none [] = refl
-append-none (l ∷ t) = ap {B = Table} (λ u. l ∷ u) (append-none t)
-
-all-append : (P : Line → Type 0) (t u : Table) → AllLines P t → AllLines P u → AllLines P (t ++ u)
-all-append P [] u a b = b
-all-append P (l ∷ t) u a b = (a .0, all-append P t u (a .1) b)
-
 or-assoc : (a b c : Bool) → ((a || b) || c) ≡ (a || (b || c))
 or-assoc true b c = refl
 or-assoc false b c = refl
 
-pub gather-start : (s : List ℕ) (p : Point) (w : List ℕ) → length w ≡ 3072 → Gathering s p w 0 0 false
-unfolding linesOfWords
-gather-start s p w h = record { n = 0; long = h; words-end = refl; few = omega arith; all = refl; fit = tt; stops = refl; holds = refl }
+-- the lines that can be read from a place on are within the widths
+lines-fit : (k : ℕ) (s : List ℕ) (at : ℕ) → length s - at < k → Fits (lines s at)
+lines-fit zero s at h = absurd (omega arith)
+lines-fit (suc k) s at h = go (lineAt s at) refl (λ n m. lines-fit k s n m)
+  where
+    go : (r : Read) → r ≡ lineAt s at → ((n : ℕ) → length s - n < k → Fits (lines s n)) → Fits (lines s at)
+    go NoLine e f = rw (lines-none s at e) tt
+    go (Got l n) e f = let m : SoundLine s at l n = got-sound s at e in rw (lines-got s at e) (m .inside, f n (omega (arith, m .further, m .within)))
 
-module _ (s : List ℕ) (p : Point) (w : List ℕ) (end at : ℕ) (hit : Bool) (g : Gathering s p w end at hit) where
-  pub gather-room : end < 3072 → end + 6 ≤ length w
-  gather-room h = omega (arith, g .words-end, g .long)
+-- the mark of a line that ends at a place
+pub mark-is : (x y : Line) (e r : ℕ) → Related x y r → ((e * 64 + r) / 64 ≡ e) × Related x y ((e * 64 + r) % 64)
+mark-is x y e r h =
+    let a : (e * 64 + r) / 64 ≡ e = omega (arith, h .small) in
+    let b : (e * 64 + r) % 64 ≡ r = omega (arith, h .small) in
+    (a, rw b h)
 
-  pub gather-full : 3072 ≤ end → AllGathered s p w (record { end = end; stop = at; hit = hit })
-  gather-full h = record { part = g; done = λ k. absurd (omega arith) }
+pub gather-start : (s : List ℕ) (p : Point) (ms : List ℕ) (x : struct.Line) → length ms ≡ 512 → Gathering s p ms 0 0 x false
+gather-start s p ms x h = record {
+  long = h;
+  few = omega arith;
+  count = omega arith;
+  each = λ k l. absurd (omega arith);
+  latest = λ l. absurd (omega arith);
+  others = refl;
+  stops = refl;
+  holds = refl;
+}
+
+-- what marks before a place say stays so
+mark-stays : (s ms : List ℕ) (t : Table) (n v k : ℕ) → k < n → Mark s ms t k → Mark s (set ms n v) t k
+mark-stays s ms t n v k h m =
+    let e : getD (set ms n v) k 0 ≡ getD ms k 0 = getD-set-other ms n k v 0 (λ q. omega arith) in
+    record { ends = rw e (m .ends); related = rw e (m .related) }
+
+module _ (s : List ℕ) (p : Point) (ms : List ℕ) (n at : ℕ) (before : struct.Line) (hit : Bool) (g : Gathering s p ms n at before hit) where
+  pub gather-room : n < 512 → n < length ms
+  gather-room h = omega (arith, g .long)
+
+  pub gather-full : 512 ≤ n → AllGathered s p ms (record { count = n; stop = at; hit = hit })
+  gather-full h = record { before = before; part = g; done = λ k. absurd (omega arith) }
 
   module _ (r : Read) (e : r ≡ lineAt s at) where
-    pub gather-none : r ≡ NoLine → AllGathered s p w (record { end = end; stop = at; hit = hit })
-    gather-none q = record { part = g; done = λ k. sym q ∙ e }
+    pub gather-none : r ≡ NoLine → AllGathered s p ms (record { count = n; stop = at; hit = hit })
+    gather-none q = record { before = before; part = g; done = λ k. sym q ∙ e }
 
-    module _ {l : struct.Line} {next : ℕ} (q : r ≡ Got l next) (h : end < 3072) (v : List ℕ) (d : ℕ) (m : Put w end (wordsOf l) d v) where
-      pub gather-less : 3072 - d < 3072 - end
-      unfolding wordsOf
-      gather-less = omega (arith, m .place)
+    module _ {l : struct.Line} {next : ℕ} (q : r ≡ Got l next) where
+      got : Got l next ≡ lineAt s at
+      got = sym q ∙ e
 
-      pub gather-more : (z : Bool) → z ≡ inLine (ranges l) p → (y : Bool) → y ≡ (hit || z) → Gathering s p v d next y
-      unfolding inTable wordsOf
-      gather-more z i y j =
-          let k : Got l next ≡ lineAt s at = sym q ∙ e in
-          let b : linesOfWords v 0 (g .n) ≡ linesOfWords w 0 (g .n) = same-words (g .n) 0 v w (λ x u. ap (λ (o : List ℕ). getD o x 0) (m .text) ∙ before-sets (wordsOf l) w end x (omega (arith, g .words-end))) in
-          let c : 0 + 6 * g .n ≡ end = omega (arith, g .words-end) in
-          let o : lineOf v (0 + 6 * g .n) ≡ ranges l = ap {B = Line} (λ x. lineOf v x) c ∙ (ap {B = Line} (λ x. lineOf x end) (m .text) ∙ put-back w end l (gather-room h)) in
-          let f : linesOfWords v 0 (suc (g .n)) ≡ linesOfWords w 0 (g .n) ++ (ranges l ∷ []) = words-last (g .n) 0 v ∙ rw (b, o) in
-          record {
-            n = suc (g .n);
-            long = ap length (m .text) ∙ (length-sets w end (wordsOf l) ∙ g .long);
-            words-end = omega (arith, m .place, g .words-end);
-            few = omega (arith, g .words-end);
-            all = rw f (append-assoc (linesOfWords w 0 (g .n)) (ranges l ∷ []) (lines s next) ∙ (ap {B = Table} (λ t. linesOfWords w 0 (g .n) ++ t) (sym (lines-got s at k)) ∙ g .all));
-            fit = rw f (all-append (LineIn widths) (linesOfWords w 0 (g .n)) (ranges l ∷ []) (g .fit) (got-sound s at k .inside, tt));
-            stops = sym (stop-got s at k) ∙ g .stops;
-            holds = rw (j, i) (or-assoc hit _ _ ∙ (ap {B = Bool} (λ t. hit || inTable t p) (sym (lines-got s at k)) ∙ g .holds));
-          }
+      pub gather-place : length s ≡ 36864 → next ≤ 36864
+      gather-place h = omega (arith, got-sound s at got .within)
+
+      here : drop n (lines s 0) ≡ ranges l ∷ lines s next
+      here = g .others ∙ lines-got s at got
+
+      more : n < length (lines s 0)
+      more = omega (arith, ap length here, length-drop n (lines s 0))
+
+      parts : getD (lines s 0) n [] ∷ drop (suc n) (lines s 0) ≡ ranges l ∷ lines s next
+      parts = sym (drop-cons (lines s 0) n [] more) ∙ here
+
+      this : row (lines s 0) n ≡ ranges l
+      this = cc parts
+
+      after : drop (suc n) (lines s 0) ≡ lines s next
+      after = cc parts
+
+      module _ (h : n < 512) (v : ℕ) (w : (v / 64 ≡ next) × Related (ranges before) (ranges l) (v % 64)) where
+        same : getD (set ms n v) n 0 ≡ v
+        same = getD-set-same ms n v 0 (gather-room h)
+
+        marked : (k : ℕ) → k < n + 1 → Mark s (set ms n v) (lines s 0) k
+        marked k o =
+            by-test (ltb k n)
+            (λ u. mark-stays s ms (lines s 0) n v k (ltb-true k n u) (g .each k (ltb-true k n u)))
+            (λ u. let z : k ≡ n = omega (arith, ltb-false k n u) in
+            rw z (record {
+              ends = rw (same, w .0) (record { from = at; line = l; read = got; is = sym this });
+              related = λ y. rw (same, this, ← g .latest y) (w .1);
+            }))
+
+        pub gather-more : (z : Bool) → z ≡ inLine (ranges l) p → (y : Bool) → y ≡ (hit || z) → Gathering s p (set ms n v) (n + 1) next l y
+        unfolding inTable
+        gather-more z i y j =
+            let o : n + 1 - 1 ≡ n = omega arith in
+            record {
+              long = length-set ms n v ∙ g .long;
+              few = omega arith;
+              count = omega (arith, more);
+              each = marked;
+              latest = λ u. rw o (sym this);
+              others = rw (add-one n) after;
+              stops = sym (stop-got s at got) ∙ g .stops;
+              holds = rw (j, i) (or-assoc hit _ _ ∙ (ap {B = Bool} (λ t. hit || inTable t p) (sym (lines-got s at got)) ∙ g .holds));
+            }
 
 -- ## a flow in a line
 pub in-from : (lo hi x : ℕ) → lo ≤ x → leb x hi ≡ inRange lo hi x
@@ -181,7 +176,7 @@ module _ (l : struct.Line) (f : numbers.Numbers) (z₀ : Bool) (e₀ : z₀ ≡ 
             unfolding ranges inLine
             holds-5 = rw (← e₀, not-false z₀ u₀, ← e₁, not-false z₁ u₁, ← e₂, not-false z₂ u₂, ← e₃, not-false z₃ u₃, ← e₄, not-false z₄ u₄, ← e₅) (sym (and-true z₅))
 
-pub ruleset gathering = (needs, put-words, put-halves, gather-start, gather-room, gather-full, gather-none, gather-less, gather-more, in-from, in-not, holds-0, holds-1, holds-2, holds-3, holds-4, holds-5)
+pub ruleset gathering = (needs, mark-is, gather-start, gather-room, gather-full, gather-none, gather-place, gather-more, in-from, in-not, holds-0, holds-1, holds-2, holds-3, holds-4, holds-5)
 
 -- ## zeros
 module _ (s : List ℕ) (i : ℕ) (w : Bool) (e : w ≡ allZero (drop i s)) where
@@ -285,13 +280,6 @@ pub zero-line : (s : List ℕ) (at : ℕ) → allZero (drop at s) ≡ true → N
 unfolding lineAt frontAt rangeAt closedBy numberAt between
 zero-line s at e = rw (zero-byte s at e)
 
-rows-taken : (w : List ℕ) (n : ℕ) → 6 * n ≤ length w → rows (take (6 * n) w) 0 ≡ linesOfWords w 0 n
-unfolding rows
-rows-taken w n h =
-    let l : length (take (6 * n) w) ≡ 6 * n = length-take-le (6 * n) w h in
-    let p : (length (take (6 * n) w) - 0) / 6 ≡ n = omega arith in
-    rw p (same-words n 0 (take (6 * n) w) w (λ k i. getD-take (6 * n) w k 0 (omega arith)))
-
 three-false : (a b c d : Bool) → d ≡ false → (a && (b && (c && d))) ≡ false
 three-false false b c d e = refl
 three-false true false c d e = refl
@@ -308,16 +296,9 @@ unfolding verdictOf storedOf
 verdict-long s f q = rw (ne-eqb (length s) 36864 q)
 
 module _ (s : List ℕ) (f : numbers.Numbers) (l : length s ≡ 36864) (w : List ℕ) (g : Gathered) (h : AllGathered s (pointOf f) w g) where
-  pub words-room : g .end ≤ length w
-  words-room = let p : Gathering s (pointOf f) w (g .end) (g .stop) (g .hit) = h .part in omega (arith, p .words-end, p .few, p .long)
-
-  in-words : rows (take (g .end) w) 0 ≡ linesOfWords w 0 (h .part .n)
-  in-words =
-      ap {B = Table} (λ x. rows (take x w) 0) (h .part .words-end)
-      ∙ rows-taken w (h .part .n) (omega (arith, h .part .words-end, words-room))
-
-  pub words-fit : Fits (rows (take (g .end) w) 0)
-  words-fit = subst Fits (sym in-words) (h .part .fit)
+  -- no line stands after those that have marks
+  count-all : lines s (g .stop) ≡ [] → g .count ≡ length (lines s 0)
+  count-all e = omega (arith, h .part .count, ap length (h .part .others ∙ e), length-drop (g .count) (lines s 0))
 
   module _ (z : Bool) (e : z ≡ allZero (drop (g .stop) s)) where
     more-lines : (r : Read) → r ≡ lineAt s (g .stop) → z ≡ false → storedOf s ≡ false
@@ -326,12 +307,11 @@ module _ (s : List ℕ) (f : numbers.Numbers) (l : length s ≡ 36864) (w : List
         three-false (eqb (length s) 36864) (canonical widths (lines s 0)) (leb (length (lines s 0)) 512) _
         (ap {B = Bool} (λ k. allZero (drop k s)) (sym (h .part .stops) ∙ stop-none s (g .stop) q) ∙ (sym e ∙ u))
     more-lines (Got m n) q u =
-        let a : h .part .n ≡ 512 = by-test (ltb (g .end) 3072)
-        (λ k. absurd (let y : NoLine ≡ Got m n = h .done (ltb-true (g .end) 3072 k) ∙ sym q in let x : _≡_ {A = ℕ} 0 1 = cc in omega arith))
-        (λ k. omega (arith, h .part .few, h .part .words-end, ltb-false (g .end) 3072 k)) in
-        let b : length (lines s 0) ≡ length (linesOfWords w 0 (h .part .n)) + length (lines s (g .stop)) = ap length (sym (h .part .all)) ∙ length-append (linesOfWords w 0 (h .part .n)) (lines s (g .stop)) in
-        let c : length (lines s (g .stop)) ≡ suc (length (lines s n)) = ap length (lines-got s (g .stop) q) in
-        two-false (eqb (length s) 36864) (canonical widths (lines s 0)) _ (allZero (drop (stop s 0) s)) (lt-leb (length (lines s 0)) 512 (omega (arith, length-lines (h .part .n) 0 w)))
+        let a : g .count ≡ 512 = by-test (ltb (g .count) 512)
+        (λ k. absurd (let y : NoLine ≡ Got m n = h .done (ltb-true (g .count) 512 k) ∙ sym q in let x : _≡_ {A = ℕ} 0 1 = cc in omega arith))
+        (λ k. omega (arith, h .part .few, ltb-false (g .count) 512 k)) in
+        let b : length (drop (g .count) (lines s 0)) ≡ suc (length (lines s n)) = ap length (h .part .others ∙ lines-got s (g .stop) q) in
+        two-false (eqb (length s) 36864) (canonical widths (lines s 0)) _ (allZero (drop (stop s 0) s)) (lt-leb (length (lines s 0)) 512 (omega (arith, length-drop (g .count) (lines s 0))))
 
     pub verdict-rest : not z ≡ true → NotTable ≡ verdictOf s f
     unfolding verdictOf
@@ -347,11 +327,16 @@ module _ (s : List ℕ) (f : numbers.Numbers) (l : length s ≡ 36864) (w : List
       end-none : lines s (g .stop) ≡ []
       end-none = lines-none s (g .stop) last
 
-      are : lines s 0 ≡ linesOfWords w 0 (h .part .n)
-      are = sym (h .part .all) ∙ (ap {B = Table} (λ t. linesOfWords w 0 (h .part .n) ++ t) end-none ∙ append-none (linesOfWords w 0 (h .part .n)))
+      pub verdict-marked : Marked s w (lines s 0) (g .count)
+      verdict-marked = record {
+        count = count-all end-none;
+        room = omega (arith, h .part .few, h .part .long);
+        fits = lines-fit (suc (length s)) s 0 (omega arith);
+        each = h .part .each;
+      }
 
       few : leb (length (lines s 0)) 512 ≡ true
-      few = le-leb (length (lines s 0)) 512 (omega (arith, ap length are, length-lines (h .part .n) 0 w, h .part .few))
+      few = le-leb (length (lines s 0)) 512 (omega (arith, count-all end-none, h .part .few))
 
       ends : allZero (drop (stop s 0) s) ≡ true
       ends = ap {B = Bool} (λ k. allZero (drop k s)) (sym (h .part .stops) ∙ stop-none s (g .stop) last) ∙ zeros
@@ -364,18 +349,15 @@ module _ (s : List ℕ) (f : numbers.Numbers) (l : length s ≡ 36864) (w : List
           or-false true = refl
           or-false false = refl
 
-      module _ (c : Bool) (i : c ≡ canonical widths (rows (take (g .end) w) 0)) where
-        order : canonical widths (lines s 0) ≡ c
-        order = ap (canonical widths) (are ∙ sym in-words) ∙ sym i
-
+      module _ (c : Bool) (i : c ≡ canonical widths (lines s 0)) where
         pub verdict-order : not c ≡ true → NotTable ≡ verdictOf s f
         unfolding verdictOf storedOf
-        verdict-order v = rw (eq-eqb (length s) 36864 l, order, not-true c v)
+        verdict-order v = rw (eq-eqb (length s) 36864 l, ← i, not-true c v)
 
         module _ (v : not c ≡ false) (a : Bool) (b : a ≡ isFlow (pointOf f)) where
           stored : storedOf s ≡ true
           unfolding storedOf
-          stored = rw (eq-eqb (length s) 36864 l, order, not-false c v, few, ends)
+          stored = rw (eq-eqb (length s) 36864 l, ← i, not-false c v, few, ends)
 
           pub verdict-flow : not a ≡ true → NotFlow ≡ verdictOf s f
           unfolding verdictOf
@@ -389,4 +371,4 @@ module _ (s : List ℕ) (f : numbers.Numbers) (l : length s ≡ 36864) (w : List
           unfolding verdictOf
           verdict-drop y x = rw (stored, ← b, not-false a y, ← found, x)
 
-pub ruleset judging = (needs, zeros-end, zeros-one, zeros-not, zeros-eight-not, zeros-second-not, zeros-third-not, zeros-fourth-not, zeros-four, zeros-less, verdict-long, words-room, words-fit, verdict-rest, verdict-order, verdict-flow, verdict-accept, verdict-drop)
+pub ruleset judging = (needs, zeros-end, zeros-one, zeros-not, zeros-eight-not, zeros-second-not, zeros-third-not, zeros-fourth-not, zeros-four, zeros-less, verdict-long, verdict-marked, verdict-rest, verdict-order, verdict-flow, verdict-accept, verdict-drop)

@@ -48,6 +48,15 @@ alike-trans (suc d) (r ∷ x) (q ∷ y) (p ∷ z) h k = go (eqRange r q) (eqRang
         let g : eqRange r p ≡ true = subst (λ w. eqRange w p ≡ true) (sym (eqRange-eq r q e)) f in
         let n : d ≤ differOf x z = m (omega arith) (omega arith) in rw g (omega arith)
 
+-- of two lines that agree before range d, both agree with a third before it, or neither does
+pub alike-swap : (d : ℕ) (x y z : Line) → d ≤ differOf x y → leb d (differOf y z) ≡ leb d (differOf x z)
+alike-swap d x y z h =
+    by-test (leb d (differOf y z))
+    (λ e. e ∙ sym (le-leb d (differOf x z) (alike-trans d x y z h (leb-true d (differOf y z) e))))
+    (λ e. by-test (leb d (differOf x z))
+    (λ f. clash (le-leb d (differOf y z) (alike-trans d y x z (rw (differ-sym y x) h) (leb-true d (differOf x z) f))) e)
+    (λ f. e ∙ sym f))
+
 leb-suc : (a b : ℕ) → leb (suc a) (suc b) ≡ leb a b
 leb-suc a b =
     by-test (leb a b)
@@ -88,6 +97,16 @@ module _ (d : ℕ) (x y : Line) (t : Table) where
   pub past-out : differOf x y < d → past d x (y ∷ t) ≡ y ∷ t
   unfolding past
   past-out h = rw (past, lt-leb _ _ h)
+
+-- the first line after a group is not of it
+pub past-head : (d : ℕ) (x y : Line) (t u : Table) → past d x t ≡ y ∷ u → differOf x y < d
+unfolding past
+past-head d x y [] u e = absurd (let z : _≡_ {A = ℕ} 0 1 = cc in omega arith)
+past-head d x y (l ∷ t) u e =
+    by-test (leb d (differOf x l))
+    (λ f. past-head d x y t u (sym (past-in d x l t (leb-true d (differOf x l) f)) ∙ e))
+    (λ f. let g : l ∷ t ≡ y ∷ u = sym (past-out d x l t (leb-false d (differOf x l) f)) ∙ e in
+    let q : l ≡ y = cc in subst (λ (z : Line). differOf x z < d) q (leb-false d (differOf x l) f))
 
 by-le {ℓ} : {P : Type ℓ} (d n : ℕ) → (d ≤ n → P) → (n < d → P) → P
 by-le d n f g = by-test (leb d n) (λ e. f (leb-true d n e)) (λ e. g (leb-false d n e))

@@ -1,9 +1,10 @@
 pub mod LineLaws
 pub mod WordLaws
 pub mod GroupLaws
-pub mod Turning
 pub mod ReadLines
 pub mod Spelling
+pub mod Tails
+pub mod Turning
 pub mod BitLaws
 pub mod Gathering
 pub mod Putting

@@ -157,7 +157,7 @@ range-read max c s at x rest d h m e =
     let r₂ = closed-read max c s (r₁ .n) (x % 4294967296) rest m d (r₁ .after) in
     record { n = r₂ .n; is = rw (r₁ .is, r₂ .is) (ends-are x (r₂ .n) h); after = r₂ .after }
 
-quads-read : (c : ℕ) (s : List ℕ) (at x : ℕ) (rest : List ℕ) → isDigit c ≡ false → x / 4294967296 ≤ x % 4294967296 → drop at s ≡ addressText (rangeOf x) ++ (c ∷ rest) → ReadsEnds (quadsAt c s at) x s rest
+pub quads-read : (c : ℕ) (s : List ℕ) (at x : ℕ) (rest : List ℕ) → isDigit c ≡ false → x / 4294967296 ≤ x % 4294967296 → drop at s ≡ addressText (rangeOf x) ++ (c ∷ rest) → ReadsEnds (quadsAt c s at) x s rest
 unfolding quadsAt addressText between
 quads-read c s at x rest d h e =
     let r₁ = closed-quad-read 0x2D s at (x / 4294967296) (quad (x % 4294967296) ++ (c ∷ rest)) (omega arith) refl (e ∙ append-assoc (quad (x / 4294967296)) (0x2D ∷ quad (x % 4294967296)) (c ∷ rest)) in

@@ -1,180 +1,290 @@
--- Laws of the walk over the groups of lines in words. Assumes nothing.
-use Prim.Native.Nat.{ℕ, zero, suc, _+_, _-_, _/_, _%_, _^_, _≤_, _<_}
+-- Laws of the walk over the groups of a table's lines, by their marks. Assumes nothing.
+use Prim.Native.Nat.{ℕ, zero, suc, _+_, _-_, _/_, _%_, _≤_, _<_}
 use mathlib.Core.Path.{_≡_, refl, ap, sym, _∙_, subst}
-use mathlib.Core.List.{List, [], _∷_}
+use mathlib.Core.List.{List, [], _∷_, reverse}
 use mathlib.Core.Bool.{Bool, true, false, _&&_, not}
-use mir.Syntax.{w64}
-use mir.Val.{Fits}
 use native.Mathlib.Numerals.{add-one}
 use native.Mathlib.Omega.{arith}
-use lib.ListN.{length, getD, drop}
+use lib.ListN.{length, getD, take, drop, drop-of-length-le}
 use lib.Seq.{drop-cons}
 use lib.Dec.{eqb, leb, ltb}
 use borrow.Author.Needs.{needs}
-use borrow.Author.Tests.{eq-eqb, ne-eqb, ltb-true, ltb-false, leb-true, leb-false, lt-ltb, le-ltb, le-leb, lt-leb, not-true, not-false}
+use borrow.Author.Tests.{ltb-true, ltb-false, leb-true, leb-false, lt-ltb, le-ltb, le-leb, lt-leb, not-true, not-false}
 use Rattle.text.proofs.Tests.{by-test, clash, split}
-use Rattle.flows.specs.Table.{_to_, run, Line, Table, eqLine, eqTable}
+use Rattle.flows.specs.Table.{Range, _to_, run, Line, Table, eqLine, eqTable}
 use Rattle.flows.specs.Flow.{widths}
 use Rattle.flows.specs.Canonical.{canonical, headed, rising, apart, filled, group}
 use Rattle.flows.proofs.Stored.{LineIn, AllLines}
 use Rattle.stored.specs.Text.{nth}
-use Rattle.stored.specs.Words.{rangeOf, rangesOf, lineOf, linesOfWords}
-use Rattle.stored.specs.Words as words
-use Rattle.stored.specs.Groups.{rows, differOf, under, past, memberAt, top, bottom, follow, followAt, Grouped}
+use Rattle.stored.specs.Line.{ranges}
+use Rattle.stored.specs.Words.{Fits}
+use Rattle.stored.specs.Groups.{row, rows, differOf, under, past, memberAt, top, bottom, follow, followAt, Next, Grouped}
+use Rattle.stored.specs.Marks.{stepOf, Related, Marked, markedIn, sameBack}
 use Rattle.stored.specs.declared.groups.Ran.{Ran}
-use Rattle.stored.proofs.WordLaws.{length-ranges, drop-ranges, rows-none, rows-got}
-use Rattle.stored.proofs.GroupLaws.{Six, differ-self, under-in, under-out, past-in, past-out, group-under, past-past}
+use Rattle.stored.proofs.ReadLines.{got-sound}
+use Rattle.stored.proofs.Spelling.{Read-as, as-read}
+use Rattle.stored.proofs.Tails.{tails-same}
+use Rattle.stored.proofs.GroupLaws.{Six, differ-self, differ-sym, alike-trans, alike-swap, nth-same, under-in, under-out, past-in, past-out, past-head, group-under, past-past}
 
-six : (w : List ℕ) (at : ℕ) → Six (lineOf w at)
-six w at = length-ranges 6 w at
+-- ## the lines from a place on
+rows-none : (w : Table) (at : ℕ) → length w ≤ at → rows w at ≡ []
+rows-none w at h = drop-of-length-le w h
 
-sixes-of : (n : ℕ) (w : List ℕ) (at : ℕ) → AllLines Six (linesOfWords w at n)
-unfolding linesOfWords
-sixes-of zero w at = tt
-sixes-of (suc n) w at = (six w at, sixes-of n w (at + 6))
+rows-got : (w : Table) (at : ℕ) → at < length w → rows w at ≡ row w at ∷ rows w (at + 1)
+rows-got w at h = rw (add-one at) (drop-cons w at [] h)
 
-sixes : (w : List ℕ) (at : ℕ) → AllLines Six (rows w at)
-unfolding rows
-sixes w at = sixes-of ((length w - at) / 6) w at
+line-six : (l : Line) → LineIn widths l → Six l
+unfolding ranges
+line-six l h = let r : Read-as l = as-read l h in subst Six (r .is) refl
+
+all-row : (P : Line → Type 0) (w : Table) → AllLines P w → (at : ℕ) → at < length w → P (row w at)
+all-row P [] a at h = absurd (omega arith)
+all-row P (l ∷ w) a zero h = a .0
+all-row P (l ∷ w) a (suc at) h = all-row P w (a .1) at (omega arith)
+
+all-rows : (P : Line → Type 0) (w : Table) → AllLines P w → (at : ℕ) → AllLines P (rows w at)
+all-rows P w a zero = a
+all-rows P [] a (suc at) = tt
+all-rows P (l ∷ w) a (suc at) = all-rows P w (a .1) at
+
+six : (w : Table) → Fits w → (at : ℕ) → at < length w → Six (row w at)
+six w f at h = line-six (row w at) (all-row (LineIn widths) w f at h)
+
+sixes : (w : Table) → Fits w → (at : ℕ) → AllLines Six (rows w at)
+sixes w f at = all-rows Six w (all-six w f) at
+  where
+    all-six : (w : Table) → Fits w → AllLines Six w
+    all-six [] f = tt
+    all-six (l ∷ w) f = (line-six l (f .0), all-six w (f .1))
+
+self : (w : Table) → Fits w → (at d : ℕ) → at < length w → d ≤ 6 → d ≤ differOf (row w at) (row w at)
+self w f at d l h = omega (arith, differ-self (row w at), six w f at l)
 
 -- ## the members of a group, one after the other
-module _ (d : ℕ) (x : Line) (w : List ℕ) (at : ℕ) (h : at ≤ length w) where
-  pub member-short : length w - at < 6 → false ≡ memberAt d x w at
+module _ (d : ℕ) (x : Line) (w : Table) (at : ℕ) (b : Bool) (e : b ≡ memberAt d x w at) where
+  member-yes : b ≡ true → (at < length w) × (d ≤ differOf x (row w at))
   unfolding memberAt
-  member-short k = rw (lt-leb (at + 6) (length w) (omega arith))
-
-  pub member-here : 6 ≤ length w - at → (k : ℕ) → k ≡ differOf x (lineOf w at) → leb d k ≡ memberAt d x w at
-  unfolding memberAt
-  member-here l k e = rw (le-leb (at + 6) (length w) (omega arith), e)
-
-module _ (d : ℕ) (x : Line) (w : List ℕ) (at : ℕ) (b : Bool) (e : b ≡ memberAt d x w at) where
-  member-yes : b ≡ true → (at + 6 ≤ length w) × (d ≤ differOf x (lineOf w at))
-  unfolding memberAt
-  member-yes q = let s = split (leb (at + 6) (length w)) _ (sym e ∙ q) in (leb-true _ _ (s .0), leb-true _ _ (s .1))
-
-  pub member-room : b ≡ true → at + 6 ≤ length w
-  member-room q = member-yes q .0
-
-  pub member-room-not : not b ≡ false → at + 6 ≤ length w
-  member-room-not q = member-yes (not-false b q) .0
-
-  pub member-fits : b ≡ true → length w < 2 ^ 64 → Fits w64 (at + 6)
-  member-fits q l = omega (arith, member-room q)
-
-  pub member-fits-not : not b ≡ false → length w < 2 ^ 64 → Fits w64 (at + 6)
-  member-fits-not q l = omega (arith, member-room-not q)
-
-  pub member-less : b ≡ true → length w - (at + 6) < length w - at
-  member-less q = omega (arith, member-room q)
+  member-yes q = let s = split (ltb at (length w)) _ (sym e ∙ q) in (ltb-true _ _ (s .0), leb-true _ _ (s .1))
 
   members-none : b ≡ false → under d x (rows w at) ≡ []
   unfolding memberAt under
   members-none q =
-      by-test (leb (at + 6) (length w))
-      (λ l. let k : leb d (differOf x (lineOf w at)) ≡ false = (rw l at (sym e)) ∙ q in
-      rw (rows-got w at (leb-true _ _ l)) (under-out d x (lineOf w at) (rows w (at + 6)) (leb-false _ _ k)))
-      (λ l. rw (rows-none w at (leb-false _ _ l)))
+      by-test (ltb at (length w))
+      (λ l. let k : leb d (differOf x (row w at)) ≡ false = (rw l at (sym e)) ∙ q in
+      rw (rows-got w at (ltb-true _ _ l)) (under-out d x (row w at) (rows w (at + 1)) (leb-false _ _ k)))
+      (λ l. rw (rows-none w at (ltb-false _ _ l)))
 
   past-none : b ≡ false → past d x (rows w at) ≡ rows w at
   unfolding memberAt past
   past-none q =
-      by-test (leb (at + 6) (length w))
-      (λ l. let k : leb d (differOf x (lineOf w at)) ≡ false = (rw l at (sym e)) ∙ q in
-      rw (rows-got w at (leb-true _ _ l)) (past-out d x (lineOf w at) (rows w (at + 6)) (leb-false _ _ k)))
-      (λ l. rw (rows-none w at (leb-false _ _ l)))
+      by-test (ltb at (length w))
+      (λ l. let k : leb d (differOf x (row w at)) ≡ false = (rw l at (sym e)) ∙ q in
+      rw (rows-got w at (ltb-true _ _ l)) (past-out d x (row w at) (rows w (at + 1)) (leb-false _ _ k)))
+      (λ l. rw (rows-none w at (ltb-false _ _ l)))
 
-  members-cons : b ≡ true → under d x (rows w at) ≡ drop d (lineOf w at) ∷ under d x (rows w (at + 6))
-  members-cons q = rw (rows-got w at (member-yes q .0)) (under-in d x (lineOf w at) (rows w (at + 6)) (member-yes q .1))
+  members-cons : b ≡ true → under d x (rows w at) ≡ drop d (row w at) ∷ under d x (rows w (at + 1))
+  members-cons q = rw (rows-got w at (member-yes q .0)) (under-in d x (row w at) (rows w (at + 1)) (member-yes q .1))
+
+-- ## what the marks tell
+pub marked-out : (d : ℕ) (ms : List ℕ) (n at : ℕ) → n ≤ at → false ≡ markedIn d ms n at
+unfolding markedIn
+marked-out d ms n at h = rw (le-ltb at n h)
+
+pub marked-in : (d : ℕ) (ms : List ℕ) (n at : ℕ) → at < n → (k : ℕ) → k ≡ getD ms at 0 % 8 → leb d k ≡ markedIn d ms n at
+unfolding markedIn
+marked-in d ms n at h k e = rw (lt-ltb at n h, e)
+
+module _ (s ms : List ℕ) (w : Table) (n : ℕ) (m : Marked s ms w n) where
+  by-marks : (d : ℕ) (x : Line) (at : ℕ) → 0 < at → d ≤ differOf x (row w (at - 1)) → markedIn d ms n at ≡ memberAt d x w at
+  unfolding markedIn memberAt
+  by-marks d x at o h =
+      by-test (ltb at n)
+      (λ l. let k : at < n = ltb-true at n l in
+      let r : Related (row w (at - 1)) (row w at) (getD ms at 0 % 64) = m .each at k .related o in
+      let q : getD ms at 0 % 8 ≡ differOf (row w (at - 1)) (row w at) = omega (arith, r .dimension) in
+      rw (l, lt-ltb at (length w) (omega (arith, m .count)), q) (alike-swap d x (row w (at - 1)) (row w at) h))
+      (λ l. rw (l, le-ltb at (length w) (omega (arith, m .count, ltb-false at n l))))
 
 -- ## two groups, line by line
-module _ (d : ℕ) (x y : Line) (w : List ℕ) (i j : ℕ) (v : Bool) (h : v ≡ eqTable (under d x (rows w i)) (under d y (rows w j)))
-    (r : Bool) (e : r ≡ memberAt d x w i) (t : Bool) (f : t ≡ memberAt d y w j) where
-  pub same-none : r ≡ false → t ≡ false → true ≡ v
-  unfolding eqTable
-  same-none p q = sym (h ∙ rw (members-none d x w i r e p, members-none d y w j t f q))
+pub record Pairing (w : Table) (d a b i j : ℕ) : Type 0 where
+  pub order : i < j
+  pub within : j < length w
+  pub first : d ≤ differOf (row w a) (row w i)
+  pub second : d ≤ differOf (row w b) (row w j)
+  pub test : eqTable (under d (row w a) (rows w a)) (under d (row w b) (rows w b)) ≡ eqTable (under d (row w a) (rows w i)) (under d (row w b) (rows w j))
 
-  pub same-short : r ≡ false → t ≡ true → false ≡ v
-  unfolding eqTable
-  same-short p q = sym (h ∙ rw (members-none d x w i r e p, members-cons d y w j t f q))
-
-  module _ (p : r ≡ true) where
-    pub same-long : not t ≡ true → false ≡ v
-    unfolding eqTable
-    same-long q = sym (h ∙ rw (members-cons d x w i r e p, members-none d y w j t f (not-true t q)))
-
-    module _ (q : not t ≡ false) (z : Bool) (g : z ≡ eqLine (drop d (lineOf w i)) (drop d (lineOf w j))) where
-      both-cons : v ≡ (z && eqTable (under d x (rows w (i + 6))) (under d y (rows w (j + 6))))
-      unfolding eqTable
-      both-cons = h ∙ rw (members-cons d x w i r e p, members-cons d y w j t f (not-false t q), g)
-
-      pub same-other : not z ≡ true → false ≡ v
-      same-other n = sym (both-cons ∙ rw (not-true z n))
-
-      pub same-on : not z ≡ false → v ≡ eqTable (under d x (rows w (i + 6))) (under d y (rows w (j + 6)))
-      same-on n = both-cons ∙ rw (not-false z n)
-
--- ## one run after another
-pub nth-word : (w : List ℕ) (at d : ℕ) → d < 6 → nth (lineOf w at) d ≡ rangeOf (getD w (at + d) 0)
-unfolding nth rangesOf
-nth-word w at d h = go 6 at d h
-  where
-    go : (n at d : ℕ) → d < n → getD (rangesOf n w at) d (0 to 0) ≡ rangeOf (getD w (at + d) 0)
-    go zero at d h = absurd (omega arith)
-    go (suc n) at zero h = let p : at + 0 ≡ at = omega arith in rw p
-    go (suc n) at (suc d) h = let p : at + suc d ≡ at + 1 + d = omega arith in rw p (go n (at + 1) d (omega arith))
-
-module _ (d : ℕ) (w : List ℕ) (i k : ℕ) (n : d < 6) (p : ℕ) (ep : p ≡ getD w (i + d) 0 % 4294967296) (q : ℕ) (eq : q ≡ getD w (k + d) 0 / 4294967296) where
-  pub follow-low : q ≤ p → false ≡ followAt d w i k
-  unfolding followAt follow
-  follow-low h = rw (nth-word w i d n, nth-word w k d n, ← ep, ← eq, le-ltb _ _ h)
-
-  pub follow-apart : p < q → (q - p ≡ 1 → ⊥) → true ≡ followAt d w i k
-  unfolding followAt follow
-  follow-apart h f = rw (nth-word w i d n, nth-word w k d n, ← ep, ← eq, lt-ltb _ _ h, ne-eqb q (suc p) (λ e. f (omega arith)))
-
-  module _ (h : p < q) (f : q - p ≡ 1) (z : Bool) (e : z ≡ eqTable (under (d + 1) (lineOf w i) (rows w i)) (under (d + 1) (lineOf w k) (rows w k))) where
-    follow-touch : followAt d w i k ≡ not z
-    unfolding followAt follow
-    follow-touch =
-        let a : q ≡ suc p = omega arith in
-        rw (nth-word w i d n, nth-word w k d n, ← ep, ← eq, lt-ltb _ _ h, eq-eqb q (suc p) a, ← add-one d, ← e)
-
-    pub follow-same : z ≡ true → false ≡ followAt d w i k
-    follow-same u = sym (follow-touch ∙ rw u)
-
-    pub follow-other : z ≡ false → true ≡ followAt d w i k
-    follow-other u = sym (follow-touch ∙ rw u)
-
-pub ruleset pairing = (needs, member-short, member-here, member-room, member-room-not, member-fits, member-fits-not, member-less, same-none, same-short, same-long, same-other, same-on, follow-low, follow-apart, follow-same, follow-other)
-
--- ## a group of one line
-self : (w : List ℕ) (at d : ℕ) → d ≤ 6 → d ≤ differOf (lineOf w at) (lineOf w at)
-self w at d h = omega (arith, differ-self (lineOf w at), six w at)
-
-none-left : (w : List ℕ) (at : ℕ) → drop 6 (lineOf w at) ≡ []
-unfolding rangesOf
-none-left w at = drop-ranges 6 6 w at
-
-module _ (w : List ℕ) (at : ℕ) (h : at + 6 ≤ length w) (b : Bool) (e : b ≡ memberAt 6 (lineOf w at) w (at + 6)) where
-  under-6 : under 6 (lineOf w at) (rows w at) ≡ [] ∷ under 6 (lineOf w at) (rows w (at + 6))
-  under-6 = rw (rows-got w at h, under-in 6 (lineOf w at) (lineOf w at) (rows w (at + 6)) (self w at 6 (omega arith)), none-left w at)
-
-  pub single-alone : b ≡ false → Grouped 6 (lineOf w at) w at (record { good = true; end = at + 6 })
-  unfolding canonical
-  single-alone q = record {
-    test = rw (under-6, members-none 6 (lineOf w at) w (at + 6) b e q);
-    rest = λ g. sym (rw (rows-got w at h, past-in 6 (lineOf w at) (lineOf w at) (rows w (at + 6)) (self w at 6 (omega arith))) (past-none 6 (lineOf w at) w (at + 6) b e q));
-    further = λ g. omega arith;
-    within = λ g. h;
+module _ (s ms : List ℕ) (w : Table) (n : ℕ) (m : Marked s ms w n) (d a b : ℕ) where
+  pub pair-start : a < b → b < n → d ≤ 6 → Pairing w d a b a b
+  pair-start h k l = record {
+    order = h;
+    within = omega (arith, m .count);
+    first = self w (m .fits) a d (omega (arith, m .count)) l;
+    second = self w (m .fits) b d (omega (arith, m .count)) l;
+    test = refl;
   }
 
-  pub single-twice : b ≡ true → Grouped 6 (lineOf w at) w at (record { good = false; end = at + 6 })
+  module _ (i j : ℕ) (p : Pairing w d a b i j) where
+    pub pair-first : i < length ms
+    pair-first = omega (arith, p .order, p .within, m .count, m .room)
+
+    pub pair-second : j < length ms
+    pair-second = omega (arith, p .within, m .count, m .room)
+
+    place-in : (k : ℕ) → k < n → getD ms k 0 / 64 ≤ length s
+    place-in k l = let e = m .each k l .ends in got-sound s (e .from) (e .read) .within
+
+    pub pair-place-first : (x : ℕ) → x ≡ getD ms i 0 / 64 → x ≤ length s
+    pair-place-first x e = omega (arith, e, place-in i (omega (arith, p .order, p .within, m .count)))
+
+    pub pair-place-second : (y : ℕ) → y ≡ getD ms j 0 / 64 → y ≤ length s
+    pair-place-second y e = omega (arith, e, place-in j (omega (arith, p .within, m .count)))
+
+    pub pair-less : n - (j + 1) < n - j
+    pair-less = omega (arith, p .within, m .count)
+
+    module _ (x y : ℕ) (ex : x ≡ getD ms i 0 / 64) (ey : y ≡ getD ms j 0 / 64) (o : 0 < d) (l : d ≤ 6) (z : Bool) (ez : z ≡ sameBack (6 - d) (reverse (take x s)) (reverse (take y s))) where
+      tails : z ≡ eqLine (drop d (row w i)) (drop d (row w j))
+      tails = ez ∙ rw (ex, ey) (tails-same s d (row w i) (row w j) (getD ms i 0 / 64) (getD ms j 0 / 64) o l (m .each i (omega (arith, p .order, p .within, m .count)) .ends) (m .each j (omega (arith, p .within, m .count)) .ends))
+
+      both-cons : eqTable (under d (row w a) (rows w a)) (under d (row w b) (rows w b)) ≡ (z && eqTable (under d (row w a) (rows w (i + 1))) (under d (row w b) (rows w (j + 1))))
+      unfolding eqTable
+      both-cons =
+          p .test
+          ∙ rw (rows-got w i (omega (arith, p .order, p .within)), under-in d (row w a) (row w i) (rows w (i + 1)) (p .first), rows-got w j (p .within), under-in d (row w b) (row w j) (rows w (j + 1)) (p .second), tails)
+
+      pub pair-other : not z ≡ true → false ≡ eqTable (under d (row w a) (rows w a)) (under d (row w b) (rows w b))
+      pair-other q = sym (both-cons ∙ rw (not-true z q))
+
+      module _ (q : not z ≡ false) (u v : Bool) (eu : u ≡ markedIn d ms n (i + 1)) (ev : v ≡ markedIn d ms n (j + 1)) where
+        on : eqTable (under d (row w a) (rows w a)) (under d (row w b) (rows w b)) ≡ eqTable (under d (row w a) (rows w (i + 1))) (under d (row w b) (rows w (j + 1)))
+        on = both-cons ∙ rw (not-false z q)
+
+        one-back : (k : ℕ) → k + 1 - 1 ≡ k
+        one-back k = omega arith
+
+        mu : u ≡ memberAt d (row w a) w (i + 1)
+        mu = eu ∙ by-marks s ms w n m d (row w a) (i + 1) (omega arith) (rw (one-back i) (p .first))
+
+        mv : v ≡ memberAt d (row w b) w (j + 1)
+        mv = ev ∙ by-marks s ms w n m d (row w b) (j + 1) (omega arith) (rw (one-back j) (p .second))
+
+        pub pair-none : not u ≡ true → v ≡ false → true ≡ eqTable (under d (row w a) (rows w a)) (under d (row w b) (rows w b))
+        unfolding eqTable
+        pair-none g h = sym (on ∙ rw (members-none d (row w a) w (i + 1) u mu (not-true u g), members-none d (row w b) w (j + 1) v mv h))
+
+        pub pair-short : not u ≡ true → v ≡ true → false ≡ eqTable (under d (row w a) (rows w a)) (under d (row w b) (rows w b))
+        unfolding eqTable
+        pair-short g h = sym (on ∙ rw (members-none d (row w a) w (i + 1) u mu (not-true u g), members-cons d (row w b) w (j + 1) v mv h))
+
+        pub pair-long : not u ≡ false → not v ≡ true → false ≡ eqTable (under d (row w a) (rows w a)) (under d (row w b) (rows w b))
+        unfolding eqTable
+        pair-long g h = sym (on ∙ rw (members-cons d (row w a) w (i + 1) u mu (not-false u g), members-none d (row w b) w (j + 1) v mv (not-true v h)))
+
+        pub pair-on : not u ≡ false → not v ≡ false → Pairing w d a b (i + 1) (j + 1)
+        pair-on g h = record {
+          order = omega (arith, p .order);
+          within = member-yes d (row w b) w (j + 1) v mv (not-false v h) .0;
+          first = member-yes d (row w a) w (i + 1) u mu (not-false u g) .1;
+          second = member-yes d (row w b) w (j + 1) v mv (not-false v h) .1;
+          test = on;
+        }
+
+pub ruleset pairing = (needs, marked-out, marked-in, pair-start, pair-first, pair-second, pair-place-first, pair-place-second, pair-less, pair-other, pair-none, pair-short, pair-long, pair-on)
+
+-- ## one run after another
+byStep : ℕ → Bool → Bool
+byStep zero z = false
+byStep (suc zero) z = not z
+byStep (suc (suc k)) z = true
+
+steps : (p q : Range) (z : Bool) → follow p q z ≡ byStep (stepOf p q) z
+unfolding follow stepOf byStep
+steps p q z =
+    by-test (ltb (top p) (bottom q))
+    (λ e. by-test (eqb (bottom q) (suc (top p))) (λ f. rw (e, f)) (λ f. rw (e, f)))
+    (λ e. rw e)
+
+far : (v : ℕ) (z : Bool) → (v ≡ 0 → ⊥) → (v ≡ 1 → ⊥) → byStep v z ≡ true
+unfolding byStep
+far zero z f g = absurd (f refl)
+far (suc zero) z f g = absurd (g refl)
+far (suc (suc v)) z f g = refl
+
+module _ (s ms : List ℕ) (w : Table) (n : ℕ) (m : Marked s ms w n) (d i k : ℕ) (x : Next d w i k) where
+  pub next-mark : k < length ms
+  next-mark = omega (arith, x .within, m .count, m .room)
+
+  pub next-pair : (i < k) × (k < n) × (0 < d + 1) × (d + 1 ≤ 6)
+  next-pair = (x .onward, omega (arith, x .within, m .count), omega arith, omega (arith, x .below))
+
+  how : getD ms k 0 / 8 % 8 ≡ stepOf (nth (row w i) d) (nth (row w k) d)
+  how =
+      let r : Related (row w (k - 1)) (row w k) (getD ms k 0 % 64) = m .each k (omega (arith, x .within, m .count)) .related (omega (arith, x .onward)) in
+      let e : differOf (row w (k - 1)) (row w k) ≡ d = omega (arith, x .alike, x .ended) in
+      let a : getD ms k 0 / 8 % 8 ≡ getD ms k 0 % 64 / 8 = omega arith in
+      let b : nth (row w i) d ≡ nth (row w (k - 1)) d = nth-same d (row w i) (row w (k - 1)) (omega (arith, six w (m .fits) i (omega (arith, x .onward, x .within)), x .below)) (omega (arith, six w (m .fits) (k - 1) (omega (arith, x .onward, x .within)), x .below)) (x .run) in
+      a ∙ (r .step ∙ rw (e, b))
+
+  follow-is : (z : Bool) → z ≡ eqTable (under (d + 1) (row w i) (rows w i)) (under (d + 1) (row w k) (rows w k)) → followAt d w i k ≡ byStep (getD ms k 0 / 8 % 8) z
+  unfolding followAt
+  follow-is z e = rw (how, ← add-one d, ← e) (steps (nth (row w i) d) (nth (row w k) d) z)
+
+  pub follow-low : getD ms k 0 / 8 % 8 ≡ 0 → false ≡ followAt d w i k
+  unfolding byStep
+  follow-low q = sym (follow-is _ refl ∙ rw q)
+
+  pub follow-apart : (getD ms k 0 / 8 % 8 ≡ 0 → ⊥) → (getD ms k 0 / 8 % 8 ≡ 1 → ⊥) → true ≡ followAt d w i k
+  follow-apart f g = sym (follow-is _ refl ∙ far (getD ms k 0 / 8 % 8) _ f g)
+
+  module _ (q : getD ms k 0 / 8 % 8 ≡ 1) (z : Bool) (e : z ≡ eqTable (under (d + 1) (row w i) (rows w i)) (under (d + 1) (row w k) (rows w k))) where
+    pub follow-same : z ≡ true → false ≡ followAt d w i k
+    unfolding byStep
+    follow-same u = sym (follow-is z e ∙ rw (q, u))
+
+    pub follow-other : z ≡ false → true ≡ followAt d w i k
+    unfolding byStep
+    follow-other u = sym (follow-is z e ∙ rw (q, u))
+
+pub ruleset following = (needs, next-mark, next-pair, follow-low, follow-apart, follow-same, follow-other)
+
+-- ## a group of one line
+module _ (s ms : List ℕ) (w : Table) (n : ℕ) (m : Marked s ms w n) (at : ℕ) (h : at < n) (b : Bool) (q : b ≡ markedIn 6 ms n (at + 1)) where
+  here : at < length w
+  here = omega (arith, m .count)
+
+  none-left : drop 6 (row w at) ≡ []
+  none-left = let l : length (row w at) ≤ 6 = omega (arith, six w (m .fits) at here) in drop-of-length-le (row w at) l
+
+  alone : 6 ≤ differOf (row w at) (row w at)
+  alone = self w (m .fits) at 6 here (omega arith)
+
+  back-one : at + 1 - 1 ≡ at
+  back-one = omega arith
+
+  e : b ≡ memberAt 6 (row w at) w (at + 1)
+  e = q ∙ by-marks s ms w n m 6 (row w at) (at + 1) (omega arith) (rw back-one alone)
+
+  under-6 : under 6 (row w at) (rows w at) ≡ [] ∷ under 6 (row w at) (rows w (at + 1))
+  under-6 = rw (rows-got w at here, under-in 6 (row w at) (row w at) (rows w (at + 1)) alone, none-left)
+
+  pub single-alone : b ≡ false → Grouped 6 (row w at) w at (record { good = true; end = at + 1 })
   unfolding canonical
-  single-twice q = record {
-    test = rw (under-6, members-cons 6 (lineOf w at) w (at + 6) b e q);
+  single-alone u = record {
+    test = rw (under-6, members-none 6 (row w at) w (at + 1) b e u);
+    rest = λ g. sym (rw (rows-got w at here, past-in 6 (row w at) (row w at) (rows w (at + 1)) alone) (past-none 6 (row w at) w (at + 1) b e u));
+    further = λ g. omega arith;
+    within = λ g. omega (arith, here);
+    last = λ g. rw back-one alone;
+  }
+
+  pub single-twice : b ≡ true → Grouped 6 (row w at) w at (record { good = false; end = at + 1 })
+  unfolding canonical
+  single-twice u = record {
+    test = rw (under-6, members-cons 6 (row w at) w (at + 1) b e u);
     rest = λ g. clash g refl;
     further = λ g. clash g refl;
     within = λ g. clash g refl;
+    last = λ g. clash g refl;
   }
 
 -- ## the runs of a group
@@ -186,7 +296,7 @@ in-nth (w ∷ ws) (a to b ∷ l) zero h k = (h .0, h .1)
 in-nth (w ∷ ws) (a to b ∷ l) (suc d) h k = in-nth ws l d (h .2) (omega arith)
 
 -- the test of the runs from a place on
-unfoldable pub runsOf : ℕ → Line → List ℕ → ℕ → Bool
+unfoldable pub runsOf : ℕ → Line → Table → ℕ → Bool
 runsOf d x w i = rising (canonical (drop (suc d) widths)) (getD widths d 0) 0 (group (under d x (rows w i)))
 
 headed-under : (d : ℕ) (x : Line) (t : Table) → d < 6 → AllLines Six t → headed (under d x t) ≡ true
@@ -197,86 +307,89 @@ headed-under d x (l ∷ t) n a =
     (λ e. rw (e, under, drop-cons l d (0 to 0) (omega (arith, a .0)), headed) (headed-under d x t n (a .1)))
     (λ e. rw (e, under))
 
-canonical-runs : (d : ℕ) (x : Line) (w : List ℕ) (i : ℕ) → d < 6 → canonical (drop d widths) (under d x (rows w i)) ≡ runsOf d x w i
+canonical-runs : (d : ℕ) (x : Line) (w : Table) → Fits w → (i : ℕ) → d < 6 → canonical (drop d widths) (under d x (rows w i)) ≡ runsOf d x w i
 unfolding canonical runsOf
-canonical-runs d x w i n = rw (drop-cons widths d 0 n, canonical, headed-under d x (rows w i) n (sixes w i))
+canonical-runs d x w f i n = rw (drop-cons widths d 0 n, canonical, headed-under d x (rows w i) n (sixes w f i))
 
 -- where the walk over the runs of a group stands: at the start of a run, with nothing wrong so far
-pub record Turn (d : ℕ) (x : Line) (w : List ℕ) (at i : ℕ) : Type 0 where
-  pub line : i + 6 ≤ length w
-  pub alike : d ≤ differOf x (lineOf w i)
+pub record Turn (d : ℕ) (x : Line) (w : Table) (at i : ℕ) : Type 0 where
+  pub line : i < length w
+  pub alike : d ≤ differOf x (row w i)
   pub test : runsOf d x w at ≡ runsOf d x w i
   pub rest : past d x (rows w at) ≡ past d x (rows w i)
   pub onward : at ≤ i
   pub below : d < 6
-  pub fits : words.Fits (rows w i)
+  pub fits : Fits w
 
-pub turn-start : (d : ℕ) (w : List ℕ) (at : ℕ) → d ≤ 6 → (d ≡ 6 → ⊥) → at + 6 ≤ length w → words.Fits (rows w at) → Turn d (lineOf w at) w at at
-turn-start d w at n u h f = record { line = h; alike = self w at d n; test = refl; rest = refl; onward = omega arith; below = omega arith; fits = f }
+pub turn-start : (s ms : List ℕ) (w : Table) (n : ℕ) → Marked s ms w n → (d at : ℕ) → d ≤ 6 → (d ≡ 6 → ⊥) → at < n → Turn d (row w at) w at at
+turn-start s ms w n m d at l u h = record {
+  line = omega (arith, m .count);
+  alike = self w (m .fits) at d (omega (arith, m .count)) l;
+  test = refl;
+  rest = refl;
+  onward = omega arith;
+  below = omega arith;
+  fits = m .fits;
+}
 
 -- the first run from such a place
-module _ (d : ℕ) (x : Line) (w : List ℕ) (i : ℕ) (n : d < 6) (h : i + 6 ≤ length w) (a : d ≤ differOf x (lineOf w i)) where
-  deep : suc d ≤ differOf (lineOf w i) (lineOf w i)
-  deep = self w i (suc d) n
+module _ (d : ℕ) (x : Line) (w : Table) (f : Fits w) (i : ℕ) (n : d < 6) (h : i < length w) (a : d ≤ differOf x (row w i)) where
+  deep : suc d ≤ differOf (row w i) (row w i)
+  deep = self w f i (suc d) h n
 
-  own : under (suc d) (lineOf w i) (rows w i) ≡ drop (suc d) (lineOf w i) ∷ under (suc d) (lineOf w i) (rows w (i + 6))
-  own = rw (rows-got w i h) (under-in (suc d) (lineOf w i) (lineOf w i) (rows w (i + 6)) deep)
+  own : under (suc d) (row w i) (rows w i) ≡ drop (suc d) (row w i) ∷ under (suc d) (row w i) (rows w (i + 1))
+  own = rw (rows-got w i h) (under-in (suc d) (row w i) (row w i) (rows w (i + 1)) deep)
 
-  first-run : group (under d x (rows w i)) ≡ run (bottom (nth (lineOf w i) d)) (top (nth (lineOf w i) d)) (under (suc d) (lineOf w i) (rows w i)) ∷ group (under d x (past (suc d) (lineOf w i) (rows w i)))
+  first-run : group (under d x (rows w i)) ≡ run (bottom (nth (row w i) d)) (top (nth (row w i) d)) (under (suc d) (row w i) (rows w i)) ∷ group (under d x (past (suc d) (row w i) (rows w i)))
   first-run =
-      rw (own, rows-got w i h, past-in (suc d) (lineOf w i) (lineOf w i) (rows w (i + 6)) deep)
-      (group-under d x (lineOf w i) n a (six w i) (lineOf w i) (rows w (i + 6)) (six w i) (sixes w (i + 6)) deep)
+      rw (own, rows-got w i h, past-in (suc d) (row w i) (row w i) (rows w (i + 1)) deep)
+      (group-under d x (row w i) n a (six w f i h) (row w i) (rows w (i + 1)) (six w f i h) (sixes w f (i + 1)) deep)
 
-  rising-from : (c : Table → Bool) (m k : ℕ) → k ≤ bottom (nth (lineOf w i) d) → rising c m k (group (under d x (rows w i))) ≡ rising c m 0 (group (under d x (rows w i)))
+  rising-from : (c : Table → Bool) (m k : ℕ) → k ≤ bottom (nth (row w i) d) → rising c m k (group (under d x (rows w i))) ≡ rising c m 0 (group (under d x (rows w i)))
   unfolding rising
-  rising-from c m k l = rw (first-run, le-leb k (bottom (nth (lineOf w i) d)) l, le-leb 0 (bottom (nth (lineOf w i) d)) (omega arith))
+  rising-from c m k l = rw (first-run, le-leb k (bottom (nth (row w i) d)) l, le-leb 0 (bottom (nth (row w i) d)) (omega arith))
 
-  rising-low : (c : Table → Bool) (m k : ℕ) → bottom (nth (lineOf w i) d) < k → rising c m k (group (under d x (rows w i))) ≡ false
+  rising-low : (c : Table → Bool) (m k : ℕ) → bottom (nth (row w i) d) < k → rising c m k (group (under d x (rows w i))) ≡ false
   unfolding rising
-  rising-low c m k l = rw (first-run, lt-leb k (bottom (nth (lineOf w i) d)) l)
+  rising-low c m k l = rw (first-run, lt-leb k (bottom (nth (row w i) d)) l)
 
-  apart-first : (hi : ℕ) (t : Table) → apart hi t (group (under d x (rows w i))) ≡ not (eqb (bottom (nth (lineOf w i) d)) (suc hi) && eqTable t (under (suc d) (lineOf w i) (rows w i)))
+  apart-first : (hi : ℕ) (t : Table) → apart hi t (group (under d x (rows w i))) ≡ not (eqb (bottom (nth (row w i) d)) (suc hi) && eqTable t (under (suc d) (row w i) (rows w i)))
   unfolding apart
   apart-first hi t = rw first-run
 
-  runs-first : words.Fits (rows w i) → runsOf d x w i ≡ (canonical (drop (suc d) widths) (under (suc d) (lineOf w i) (rows w i)) && (apart (top (nth (lineOf w i) d)) (under (suc d) (lineOf w i) (rows w i)) (group (under d x (past (suc d) (lineOf w i) (rows w i)))) && rising (canonical (drop (suc d) widths)) (getD widths d 0) (suc (top (nth (lineOf w i) d))) (group (under d x (past (suc d) (lineOf w i) (rows w i))))))
+  runs-first : runsOf d x w i ≡ (canonical (drop (suc d) widths) (under (suc d) (row w i) (rows w i)) && (apart (top (nth (row w i) d)) (under (suc d) (row w i) (rows w i)) (group (under d x (past (suc d) (row w i) (rows w i)))) && rising (canonical (drop (suc d) widths)) (getD widths d 0) (suc (top (nth (row w i) d))) (group (under d x (past (suc d) (row w i) (rows w i))))))
   unfolding runsOf rising
-  runs-first z =
-      let y : AllLines (LineIn widths) (lineOf w i ∷ rows w (i + 6)) = subst (AllLines (LineIn widths)) (rows-got w i h) z in
-      let r = in-nth widths (lineOf w i) d (y .0) n in
-      let f : filled (under (suc d) (lineOf w i) (rows w i)) ≡ true = unfold filled in rw own in
-      rw (first-run, le-leb 0 (bottom (nth (lineOf w i) d)) (omega arith), le-leb (bottom (nth (lineOf w i) d)) (top (nth (lineOf w i) d)) (r .0), lt-ltb (top (nth (lineOf w i) d)) (getD widths d 0) (r .1), f)
-
-past-lines : (P : Line → Type 0) (d : ℕ) (x : Line) (t : Table) → AllLines P t → AllLines P (past d x t)
-unfolding past
-past-lines P d x [] a = tt
-past-lines P d x (l ∷ t) a = by-test (leb d (differOf x l)) (λ e. rw (e, past) (past-lines P d x t (a .1))) (λ e. rw (e, past) a)
+  runs-first =
+      let r = in-nth widths (row w i) d (all-row (LineIn widths) w f i h) n in
+      let g : filled (under (suc d) (row w i) (rows w i)) ≡ true = unfold filled in rw own in
+      rw (first-run, le-leb 0 (bottom (nth (row w i) d)) (omega arith), le-leb (bottom (nth (row w i) d)) (top (nth (row w i) d)) (r .0), lt-ltb (top (nth (row w i) d)) (getD widths d 0) (r .1), g)
 
 and-false : (a : Bool) → (a && false) ≡ false
 and-false true = refl
 and-false false = refl
 
-module _ (d : ℕ) (x : Line) (w : List ℕ) (at i : ℕ) (t : Turn d x w at i) (g : Ran) (h : Grouped (d + 1) (lineOf w i) w i g) where
-  inner : g .good ≡ canonical (drop (suc d) widths) (under (suc d) (lineOf w i) (rows w i))
-  inner = subst (λ j. g .good ≡ canonical (drop j widths) (under j (lineOf w i) (rows w i))) (add-one d) (h .test)
+module _ (d : ℕ) (x : Line) (w : Table) (at i : ℕ) (t : Turn d x w at i) (g : Ran) (h : Grouped (d + 1) (row w i) w i g) where
+  inner : g .good ≡ canonical (drop (suc d) widths) (under (suc d) (row w i) (rows w i))
+  inner = subst (λ j. g .good ≡ canonical (drop j widths) (under j (row w i) (rows w i))) (add-one d) (h .test)
 
   whole : canonical (drop d widths) (under d x (rows w at)) ≡ runsOf d x w i
-  whole = canonical-runs d x w at (t .below) ∙ t .test
+  whole = canonical-runs d x w (t .fits) at (t .below) ∙ t .test
 
   pub turn-bad : not (g .good) ≡ true → Grouped d x w at (record { good = false; end = g .end })
   turn-bad u = record {
-    test = sym (whole ∙ (runs-first d x w i (t .below) (t .line) (t .alike) (t .fits) ∙ rw (← inner, not-true (g .good) u)));
+    test = sym (whole ∙ (runs-first d x w (t .fits) i (t .below) (t .line) (t .alike) ∙ rw (← inner, not-true (g .good) u)));
     rest = λ k. clash k refl;
     further = λ k. clash k refl;
     within = λ k. clash k refl;
+    last = λ k. clash k refl;
   }
 
   module _ (u : not (g .good) ≡ false) where
-    places : rows w (g .end) ≡ past (suc d) (lineOf w i) (rows w i)
+    places : rows w (g .end) ≡ past (suc d) (row w i) (rows w i)
     places = rw (← add-one d) (h .rest (not-false (g .good) u))
 
     behind : past d x (rows w at) ≡ past d x (rows w (g .end))
-    behind = t .rest ∙ (past-past d x (lineOf w i) (t .below) (t .alike) (six w i) (rows w i) ∙ ap (past d x) (sym places))
+    behind = t .rest ∙ (past-past d x (row w i) (t .below) (t .alike) (six w (t .fits) i (t .line)) (rows w i) ∙ ap (past d x) (sym places))
 
     pub turn-further : i < g .end
     turn-further = h .further (not-false (g .good) u)
@@ -284,13 +397,22 @@ module _ (d : ℕ) (x : Line) (w : List ℕ) (at i : ℕ) (t : Turn d x w at i) 
     pub turn-within : g .end ≤ length w
     turn-within = h .within (not-false (g .good) u)
 
-    runs-next : runsOf d x w i ≡ (apart (top (nth (lineOf w i) d)) (under (suc d) (lineOf w i) (rows w i)) (group (under d x (rows w (g .end)))) && rising (canonical (drop (suc d) widths)) (getD widths d 0) (suc (top (nth (lineOf w i) d))) (group (under d x (rows w (g .end)))))
-    runs-next = runs-first d x w i (t .below) (t .line) (t .alike) (t .fits) ∙ rw (← inner, not-false (g .good) u, places)
+    runs-next : runsOf d x w i ≡ (apart (top (nth (row w i) d)) (under (suc d) (row w i) (rows w i)) (group (under d x (rows w (g .end)))) && rising (canonical (drop (suc d) widths)) (getD widths d 0) (suc (top (nth (row w i) d))) (group (under d x (rows w (g .end)))))
+    runs-next = runs-first d x w (t .fits) i (t .below) (t .line) (t .alike) ∙ rw (← inner, not-false (g .good) u, places)
 
     pub turn-less : length w - g .end < length w - i
     turn-less = omega (arith, turn-further, turn-within)
 
-    module _ (b : Bool) (m : b ≡ memberAt d x w (g .end)) where
+    lastly : suc d ≤ differOf (row w i) (row w (g .end - 1))
+    lastly = omega (arith, h .last (not-false (g .good) u))
+
+    joined : d ≤ differOf x (row w (g .end - 1))
+    joined = alike-trans d x (row w i) (row w (g .end - 1)) (t .alike) (omega (arith, lastly))
+
+    module _ (s ms : List ℕ) (n : ℕ) (k : Marked s ms w n) (b : Bool) (o : b ≡ markedIn d ms n (g .end)) where
+      m : b ≡ memberAt d x w (g .end)
+      m = o ∙ by-marks s ms w n k d x (g .end) (omega (arith, turn-further)) joined
+
       pub turn-out : not b ≡ true → Grouped d x w at (record { good = true; end = g .end })
       unfolding group apart rising
       turn-out v = record {
@@ -298,44 +420,65 @@ module _ (d : ℕ) (x : Line) (w : List ℕ) (at i : ℕ) (t : Turn d x w at i) 
         rest = λ k. sym (behind ∙ past-none d x w (g .end) b m (not-true b v));
         further = λ k. omega (arith, turn-further, t .onward);
         within = λ k. turn-within;
+        last = λ k. joined;
       }
 
-      module _ (v : not b ≡ false) (z : Bool) (e : z ≡ followAt d w i (g .end)) where
-        room : g .end + 6 ≤ length w
+      module _ (v : not b ≡ false) where
+        room : g .end < length w
         room = member-yes d x w (g .end) b m (not-false b v) .0
 
-        high : d ≤ differOf x (lineOf w (g .end))
+        high : d ≤ differOf x (row w (g .end))
         high = member-yes d x w (g .end) b m (not-false b v) .1
 
-        parts : z ≡ (ltb (top (nth (lineOf w i) d)) (bottom (nth (lineOf w (g .end)) d)) && apart (top (nth (lineOf w i) d)) (under (suc d) (lineOf w i) (rows w i)) (group (under d x (rows w (g .end)))))
-        unfolding followAt follow
-        parts = e ∙ rw (apart-first d x w (g .end) (t .below) room high (top (nth (lineOf w i) d)) (under (suc d) (lineOf w i) (rows w i)))
+        apart-from : differOf (row w i) (row w (g .end)) < suc d
+        apart-from = past-head (suc d) (row w i) (row w (g .end)) (rows w i) (rows w (g .end + 1)) (sym places ∙ rows-got w (g .end) room)
 
-        pub turn-wrong : not z ≡ true → Grouped d x w at (record { good = false; end = g .end })
-        turn-wrong y = record {
-          test = sym (whole ∙ (runs-next ∙ by-test (ltb (top (nth (lineOf w i) d)) (bottom (nth (lineOf w (g .end)) d)))
-              (λ p. let r : apart (top (nth (lineOf w i) d)) (under (suc d) (lineOf w i) (rows w i)) (group (under d x (rows w (g .end)))) ≡ false = (rw p at (sym parts)) ∙ not-true z y in rw r)
-              (λ p. rw (rising-low d x w (g .end) (t .below) room high (canonical (drop (suc d) widths)) (getD widths d 0) (suc (top (nth (lineOf w i) d))) (omega (arith, ltb-false (top (nth (lineOf w i) d)) (bottom (nth (lineOf w (g .end)) d)) p))) (and-false (apart (top (nth (lineOf w i) d)) (under (suc d) (lineOf w i) (rows w i)) (group (under d x (rows w (g .end)))))))));
-          rest = λ j. clash j refl;
-          further = λ j. clash j refl;
-          within = λ j. clash j refl;
+        pub turn-next : Next d w i (g .end)
+        turn-next = record {
+          below = t .below;
+          onward = turn-further;
+          within = room;
+          run = lastly;
+          alike = alike-trans d (row w (g .end - 1)) x (row w (g .end)) (rw (differ-sym (row w (g .end - 1)) x) joined) high;
+          ended = by-test (leb (suc d) (differOf (row w (g .end - 1)) (row w (g .end))))
+              (λ q. absurd (omega (arith, apart-from, alike-trans (suc d) (row w i) (row w (g .end - 1)) (row w (g .end)) lastly (leb-true _ _ q))))
+              (λ q. omega (arith, leb-false (suc d) (differOf (row w (g .end - 1)) (row w (g .end))) q));
         }
 
-        pub turn-on : not z ≡ false → Turn d x w at (g .end)
-        unfolding runsOf
-        turn-on y =
-            let p = split (ltb (top (nth (lineOf w i) d)) (bottom (nth (lineOf w (g .end)) d))) (apart (top (nth (lineOf w i) d)) (under (suc d) (lineOf w i) (rows w i)) (group (under d x (rows w (g .end))))) (sym parts ∙ not-false z y) in
-            record {
-              line = room;
-              alike = high;
-              test = t .test ∙ (runs-next ∙ rw (p .1) (rising-from d x w (g .end) (t .below) room high (canonical (drop (suc d) widths)) (getD widths d 0) (suc (top (nth (lineOf w i) d))) (omega (arith, ltb-true (top (nth (lineOf w i) d)) (bottom (nth (lineOf w (g .end)) d)) (p .0)))));
-              rest = behind;
-              onward = omega (arith, turn-further, t .onward);
-              below = t .below;
-              fits = subst (AllLines (LineIn widths)) (sym places) (past-lines (LineIn widths) (suc d) (lineOf w i) (rows w i) (t .fits));
-            }
+        pub turn-again : g .end < n
+        turn-again = omega (arith, room, k .count)
 
-pub grouped-six : (d : ℕ) (x : Line) (w : List ℕ) (at : ℕ) (r : Ran) → Grouped 6 x w at r → d ≡ 6 → Grouped d x w at r
+        module _ (z : Bool) (e : z ≡ followAt d w i (g .end)) where
+          parts : z ≡ (ltb (top (nth (row w i) d)) (bottom (nth (row w (g .end)) d)) && apart (top (nth (row w i) d)) (under (suc d) (row w i) (rows w i)) (group (under d x (rows w (g .end)))))
+          unfolding followAt follow
+          parts = e ∙ rw (apart-first d x w (t .fits) (g .end) (t .below) room high (top (nth (row w i) d)) (under (suc d) (row w i) (rows w i)))
+
+          pub turn-wrong : not z ≡ true → Grouped d x w at (record { good = false; end = g .end })
+          turn-wrong y = record {
+            test = sym (whole ∙ (runs-next ∙ by-test (ltb (top (nth (row w i) d)) (bottom (nth (row w (g .end)) d)))
+                (λ p. let r : apart (top (nth (row w i) d)) (under (suc d) (row w i) (rows w i)) (group (under d x (rows w (g .end)))) ≡ false = (rw p at (sym parts)) ∙ not-true z y in rw r)
+                (λ p. rw (rising-low d x w (t .fits) (g .end) (t .below) room high (canonical (drop (suc d) widths)) (getD widths d 0) (suc (top (nth (row w i) d))) (omega (arith, ltb-false (top (nth (row w i) d)) (bottom (nth (row w (g .end)) d)) p))) (and-false (apart (top (nth (row w i) d)) (under (suc d) (row w i) (rows w i)) (group (under d x (rows w (g .end)))))))));
+            rest = λ j. clash j refl;
+            further = λ j. clash j refl;
+            within = λ j. clash j refl;
+            last = λ j. clash j refl;
+          }
+
+          pub turn-on : not z ≡ false → Turn d x w at (g .end)
+          unfolding runsOf
+          turn-on y =
+              let p = split (ltb (top (nth (row w i) d)) (bottom (nth (row w (g .end)) d))) (apart (top (nth (row w i) d)) (under (suc d) (row w i) (rows w i)) (group (under d x (rows w (g .end))))) (sym parts ∙ not-false z y) in
+              record {
+                line = room;
+                alike = high;
+                test = t .test ∙ (runs-next ∙ rw (p .1) (rising-from d x w (t .fits) (g .end) (t .below) room high (canonical (drop (suc d) widths)) (getD widths d 0) (suc (top (nth (row w i) d))) (omega (arith, ltb-true (top (nth (row w i) d)) (bottom (nth (row w (g .end)) d)) (p .0)))));
+                rest = behind;
+                onward = omega (arith, turn-further, t .onward);
+                below = t .below;
+                fits = t .fits;
+              }
+
+pub grouped-six : (d : ℕ) (x : Line) (w : Table) (at : ℕ) (r : Ran) → Grouped 6 x w at r → d ≡ 6 → Grouped d x w at r
 grouped-six d x w at r h q = rw q h
 
 -- ## the whole
@@ -344,11 +487,11 @@ unfolding under
 under-all x [] = refl
 under-all x (l ∷ t) = rw (under, le-leb 0 (differOf x l) (omega arith), under-all x t)
 
-pub table-none : (w : List ℕ) → length w < 6 → true ≡ canonical widths (rows w 0)
+pub table-none : (s ms : List ℕ) (w : Table) (n : ℕ) → Marked s ms w n → n ≡ 0 → true ≡ canonical widths w
 unfolding canonical headed rising group
-table-none w h = rw (rows-none w 0 h)
+table-none s ms w n m h = sym (ap (canonical widths) (rows-none w 0 (omega (arith, m .count))))
 
-pub table-is : (w : List ℕ) (g : Ran) → Grouped 0 (lineOf w 0) w 0 g → g .good ≡ canonical widths (rows w 0)
-table-is w g h = h .test ∙ ap (canonical widths) (under-all (lineOf w 0) (rows w 0))
+pub table-is : (w : Table) (g : Ran) → Grouped 0 (row w 0) w 0 g → g .good ≡ canonical widths w
+table-is w g h = h .test ∙ ap (canonical widths) (under-all (row w 0) w)
 
-pub ruleset walking = (needs, member-room, member-room-not, grouped-six, single-alone, single-twice, turn-start, turn-bad, turn-out, turn-wrong, turn-on, turn-less, turn-within, table-none, table-is)
+pub ruleset walking = (needs, grouped-six, single-alone, single-twice, turn-start, turn-bad, turn-out, turn-next, turn-wrong, turn-on, turn-less, turn-within, turn-again, table-none, table-is)

@@ -1,19 +1,20 @@
--- Laws of lines in words. Assumes nothing.
-use Prim.Native.Nat.{ℕ, zero, suc, _+_, _-_, _/_, _%_, _≤_, _<_}
-use native.Mathlib.Nat.{add-zero}
+-- Laws of two lines, one after the other. Assumes nothing.
+use Prim.Native.Nat.{ℕ, suc, _+_, _-_, _*_, _/_, _%_, _≤_, _<_}
 use native.Mathlib.Omega.{arith}
-use mathlib.Core.Path.{_≡_, refl, ap, sym, _∙_}
-use mathlib.Core.List.{List, [], _∷_}
-use mathlib.Core.Bool.{Bool, true, false}
-use lib.ListN.{length, getD, drop}
+use mathlib.Core.Path.{_≡_, refl, _∙_}
+use mathlib.Core.Bool.{true, false}
 use lib.Dec.{eqb}
 use borrow.Author.Needs.{needs}
-use borrow.Author.Tests.{eqb-true}
+use borrow.Author.Tests.{eqb-true, eq-eqb, ne-eqb, lt-ltb, le-ltb}
 use Rattle.text.proofs.Tests.{by-test, and-left, and-right}
-use Rattle.flows.specs.Table.{eqRange, eqLine}
+use Rattle.flows.specs.Table.{Line, eqRange}
 use Rattle.flows.proofs.Equal.{eqRange-refl}
-use Rattle.stored.specs.Words.{rangeOf, rangesOf, lineOf, linesOfWords}
-use Rattle.stored.specs.Groups.{rows, differOf}
+use Rattle.stored.specs.declared.lines.Line as struct
+use Rattle.stored.specs.Line.{ranges}
+use Rattle.stored.specs.Text.{nth}
+use Rattle.stored.specs.Words.{rangeOf}
+use Rattle.stored.specs.Groups.{differOf}
+use Rattle.stored.specs.Marks.{stepOf, Related}
 
 -- two ranges are the same where their words are
 pub same-word : (x y : ℕ) → x ≡ y → eqRange (rangeOf x) (rangeOf y) ≡ true
@@ -27,76 +28,62 @@ other-word x y f =
     let b : x % 4294967296 ≡ y % 4294967296 = eqb-true (x % 4294967296) (y % 4294967296) (and-right (eqb (x / 4294967296) (y / 4294967296)) _ e) in omega arith)))
     (λ e. e)
 
-pub length-ranges : (n : ℕ) (w : List ℕ) (at : ℕ) → length (rangesOf n w at) ≡ n
-unfolding rangesOf
-length-ranges zero w at = refl
-length-ranges (suc n) w at = ap suc (length-ranges n w (at + 1))
+-- ## how a range stands to the one before it
+module _ (x y : ℕ) where
+  pub step-low : y / 4294967296 ≤ x % 4294967296 → 0 ≡ stepOf (rangeOf x) (rangeOf y)
+  unfolding stepOf
+  step-low h = rw (le-ltb (x % 4294967296) (y / 4294967296) h)
 
-pub drop-ranges : (n d : ℕ) (w : List ℕ) (at : ℕ) → drop d (rangesOf n w at) ≡ rangesOf (n - d) w (at + d)
-unfolding rangesOf
-drop-ranges n zero w at = let p : n - 0 ≡ n = omega arith in rw (p, add-zero at)
-drop-ranges zero (suc d) w at = let p : 0 - suc d ≡ 0 = omega arith in rw p
-drop-ranges (suc n) (suc d) w at =
-    let p : suc n - suc d ≡ n - d = omega arith in
-    let q : at + suc d ≡ at + 1 + d = omega arith in
-    rw (p, q) (drop-ranges n d w (at + 1))
+  pub step-next : x % 4294967296 < y / 4294967296 → y / 4294967296 - x % 4294967296 ≡ 1 → 1 ≡ stepOf (rangeOf x) (rangeOf y)
+  unfolding stepOf
+  step-next h e = rw (lt-ltb (x % 4294967296) (y / 4294967296) h, eq-eqb (y / 4294967296) (suc (x % 4294967296)) (omega arith))
 
-cons-ranges : (n d : ℕ) (w : List ℕ) (at : ℕ) → d < n → rangesOf (n - d) w (at + d) ≡ rangeOf (getD w (at + d) 0) ∷ rangesOf (n - (d + 1)) w (at + (d + 1))
-unfolding rangesOf
-cons-ranges n d w at h =
-    let p : n - d ≡ suc (n - (d + 1)) = omega arith in
-    let q : at + (d + 1) ≡ at + d + 1 = omega arith in
-    rw (p, q)
+  pub step-up : x % 4294967296 < y / 4294967296 → (y / 4294967296 - x % 4294967296 ≡ 1 → ⊥) → 2 ≡ stepOf (rangeOf x) (rangeOf y)
+  unfolding stepOf
+  step-up h f = rw (lt-ltb (x % 4294967296) (y / 4294967296) h, ne-eqb (y / 4294967296) (suc (x % 4294967296)) (λ e. f (omega arith)))
 
--- ## two lines, from range to range
--- what is left of the first difference, and of the comparison, from range d on
-unfoldable pub differFrom : List ℕ → ℕ → ℕ → ℕ → ℕ
-differFrom w a b d = d + differOf (rangesOf (6 - d) w (a + d)) (rangesOf (6 - d) w (b + d))
+pub ruleset stepping = (needs, step-low, step-next, step-up)
 
-unfoldable pub agreeFrom : List ℕ → ℕ → ℕ → ℕ → Bool
-agreeFrom w a b d = eqLine (rangesOf (6 - d) w (a + d)) (rangesOf (6 - d) w (b + d))
+-- ## the first dimension in which two lines differ
+related : (x y : Line) (k z : ℕ) → differOf x y ≡ k → k ≤ 6 → z ≡ stepOf (nth x k) (nth y k) → z ≤ 2 → Related x y (z * 8 + k)
+related x y k z e h q l = record {
+  dimension = omega (arith, e);
+  step = let a : (z * 8 + k) / 8 ≡ z = omega arith in a ∙ (q ∙ rw e);
+  small = omega arith;
+}
 
-pub differ-start : (w : List ℕ) (a b : ℕ) → differOf (lineOf w a) (lineOf w b) ≡ differFrom w a b 0
-unfolding differFrom
-differ-start w a b = rw (add-zero a, add-zero b) (omega arith)
+module _ (a b : struct.Line) where
+  pub related-0 : (a .direction ≡ b .direction → ⊥) → (z : ℕ) → z ≡ stepOf (rangeOf (a .direction)) (rangeOf (b .direction)) → z ≤ 2 → Related (ranges a) (ranges b) (z * 8)
+  unfolding ranges differOf nth
+  related-0 f z q l = let p : z * 8 + 0 ≡ z * 8 = omega arith in rw (← p) (related (ranges a) (ranges b) 0 z (rw (other-word (a .direction) (b .direction) f, differOf)) (omega arith) q l)
 
-pub agree-start : (w : List ℕ) (a b d : ℕ) → eqLine (drop d (lineOf w a)) (drop d (lineOf w b)) ≡ agreeFrom w a b d
-unfolding agreeFrom
-agree-start w a b d = rw (drop-ranges 6 d w a, drop-ranges 6 d w b)
+  module _ (e₀ : a .direction ≡ b .direction) where
+    pub related-1 : (a .protocol ≡ b .protocol → ⊥) → (z : ℕ) → z ≡ stepOf (rangeOf (a .protocol)) (rangeOf (b .protocol)) → z ≤ 2 → Related (ranges a) (ranges b) (z * 8 + 1)
+    unfolding ranges differOf nth
+    related-1 f z q l = related (ranges a) (ranges b) 1 z (rw (same-word _ _ e₀, other-word (a .protocol) (b .protocol) f, differOf)) (omega arith) q l
 
-module _ (w : List ℕ) (a b d : ℕ) where
-  pub differ-end : (v : ℕ) → v ≡ differFrom w a b d → 6 ≤ d → d ≤ 6 → 6 ≡ v
-  unfolding differFrom rangesOf differOf
-  differ-end v e h k = let p : d ≡ 6 = omega arith in sym (e ∙ rw p)
+    module _ (e₁ : a .protocol ≡ b .protocol) where
+      pub related-2 : (a .opener ≡ b .opener → ⊥) → (z : ℕ) → z ≡ stepOf (rangeOf (a .opener)) (rangeOf (b .opener)) → z ≤ 2 → Related (ranges a) (ranges b) (z * 8 + 2)
+      unfolding ranges differOf nth
+      related-2 f z q l = related (ranges a) (ranges b) 2 z (rw (same-word _ _ e₀, same-word _ _ e₁, other-word (a .opener) (b .opener) f, differOf)) (omega arith) q l
 
-  pub agree-end : (v : Bool) → v ≡ agreeFrom w a b d → 6 ≤ d → true ≡ v
-  unfolding agreeFrom rangesOf eqLine
-  agree-end v e h = let p : 6 - d ≡ 0 = omega arith in sym (e ∙ rw p)
+      module _ (e₂ : a .opener ≡ b .opener) where
+        pub related-3 : (a .address ≡ b .address → ⊥) → (z : ℕ) → z ≡ stepOf (rangeOf (a .address)) (rangeOf (b .address)) → z ≤ 2 → Related (ranges a) (ranges b) (z * 8 + 3)
+        unfolding ranges differOf nth
+        related-3 f z q l = related (ranges a) (ranges b) 3 z (rw (same-word _ _ e₀, same-word _ _ e₁, same-word _ _ e₂, other-word (a .address) (b .address) f, differOf)) (omega arith) q l
 
-  module _ (h : d < 6) where
-    pub differ-here : (v : ℕ) → v ≡ differFrom w a b d → (getD w (a + d) 0 ≡ getD w (b + d) 0 → ⊥) → d ≡ v
-    unfolding differFrom differOf
-    differ-here v e f = sym (e ∙ rw (cons-ranges 6 d w a h, cons-ranges 6 d w b h, differOf, other-word _ _ f) (add-zero d))
+        module _ (e₃ : a .address ≡ b .address) where
+          pub related-4 : (a .remote ≡ b .remote → ⊥) → (z : ℕ) → z ≡ stepOf (rangeOf (a .remote)) (rangeOf (b .remote)) → z ≤ 2 → Related (ranges a) (ranges b) (z * 8 + 4)
+          unfolding ranges differOf nth
+          related-4 f z q l = related (ranges a) (ranges b) 4 z (rw (same-word _ _ e₀, same-word _ _ e₁, same-word _ _ e₂, same-word _ _ e₃, other-word (a .remote) (b .remote) f, differOf)) (omega arith) q l
 
-    pub differ-later : (v : ℕ) → v ≡ differFrom w a b d → getD w (a + d) 0 ≡ getD w (b + d) 0 → v ≡ differFrom w a b (d + 1)
-    unfolding differFrom differOf
-    differ-later v e q = e ∙ rw (cons-ranges 6 d w a h, cons-ranges 6 d w b h, differOf, same-word _ _ q) (omega arith)
+          module _ (e₄ : a .remote ≡ b .remote) where
+            pub related-5 : (a .device ≡ b .device → ⊥) → (z : ℕ) → z ≡ stepOf (rangeOf (a .device)) (rangeOf (b .device)) → z ≤ 2 → Related (ranges a) (ranges b) (z * 8 + 5)
+            unfolding ranges differOf nth
+            related-5 f z q l = related (ranges a) (ranges b) 5 z (rw (same-word _ _ e₀, same-word _ _ e₁, same-word _ _ e₂, same-word _ _ e₃, same-word _ _ e₄, other-word (a .device) (b .device) f, differOf)) (omega arith) q l
 
-    pub agree-not : (v : Bool) → v ≡ agreeFrom w a b d → (getD w (a + d) 0 ≡ getD w (b + d) 0 → ⊥) → false ≡ v
-    unfolding agreeFrom eqLine
-    agree-not v e f = sym (e ∙ rw (cons-ranges 6 d w a h, cons-ranges 6 d w b h, eqLine, other-word _ _ f))
+            pub related-6 : a .device ≡ b .device → Related (ranges a) (ranges b) 6
+            unfolding ranges differOf nth stepOf
+            related-6 e₅ = related (ranges a) (ranges b) 6 0 (rw (same-word _ _ e₀, same-word _ _ e₁, same-word _ _ e₂, same-word _ _ e₃, same-word _ _ e₄, same-word _ _ e₅, differOf)) (omega arith) refl (omega arith)
 
-    pub agree-later : (v : Bool) → v ≡ agreeFrom w a b d → getD w (a + d) 0 ≡ getD w (b + d) 0 → v ≡ agreeFrom w a b (d + 1)
-    unfolding agreeFrom eqLine
-    agree-later v e q = e ∙ rw (cons-ranges 6 d w a h, cons-ranges 6 d w b h, eqLine, same-word _ _ q)
-
-pub ruleset comparing = (needs, differ-start, differ-end, differ-here, differ-later, agree-start, agree-end, agree-not, agree-later)
-
--- ## the lines from a place on
-pub rows-none : (w : List ℕ) (at : ℕ) → length w < at + 6 → rows w at ≡ []
-unfolding rows linesOfWords
-rows-none w at h = let p : (length w - at) / 6 ≡ 0 = omega arith in rw p
-
-pub rows-got : (w : List ℕ) (at : ℕ) → at + 6 ≤ length w → rows w at ≡ lineOf w at ∷ rows w (at + 6)
-unfolding rows linesOfWords
-rows-got w at h = let p : (length w - at) / 6 ≡ suc ((length w - (at + 6)) / 6) = omega arith in rw p
+pub ruleset relating = (needs, related-0, related-1, related-2, related-3, related-4, related-5, related-6)

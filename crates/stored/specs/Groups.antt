@@ -1,20 +1,22 @@
--- The groups of lines in words: what the functions that test their order answer. (Cited by inner functions only.)
-use Prim.Native.Nat.{ℕ, zero, suc, _+_, _-_, _/_, _≤_, _<_}
+-- The groups of a table's lines: what the functions that test their order answer. (Cited by inner functions only.)
+use Prim.Native.Nat.{ℕ, zero, suc, _-_, _≤_, _<_}
 use mathlib.Core.Path.{_≡_}
-use mathlib.Core.List.{List, [], _∷_}
+use mathlib.Core.List.{[], _∷_}
 use mathlib.Core.Bool.{Bool, true, false, _&&_, not}
-use lib.ListN.{length, drop}
+use lib.ListN.{length, getD, drop}
 use lib.Dec.{ltb, leb, eqb}
 use Rattle.flows.specs.Table.{Range, _to_, Line, Table, eqRange, eqTable}
 use Rattle.flows.specs.Flow.{widths}
 use Rattle.flows.specs.Canonical.{canonical}
 use Rattle.stored.specs.Text.{nth}
-use Rattle.stored.specs.Words.{lineOf, linesOfWords}
 use Rattle.stored.specs.declared.groups.Ran.{Ran}
 
--- the lines from a place to the end of the words
-unfoldable pub rows : List ℕ → ℕ → Table
-rows w at = linesOfWords w at ((length w - at) / 6)
+-- the line at a place, and the lines from there on
+abbrev pub row : Table → ℕ → Line
+row t at = getD t at []
+
+abbrev pub rows : Table → ℕ → Table
+rows t at = drop at t
 
 -- how many ranges of two lines agree, from the first on
 unfoldable pub differOf : Line → Line → ℕ
@@ -32,8 +34,8 @@ past d x [] = []
 past d x (l ∷ t) = elim (leb d (differOf x l)) [ true ↦ past d x t | false ↦ l ∷ t ]
 
 -- a line stands at a place and agrees with another before range d
-unfoldable pub memberAt : ℕ → Line → List ℕ → ℕ → Bool
-memberAt d x w at = leb (at + 6) (length w) && leb d (differOf x (lineOf w at))
+unfoldable pub memberAt : ℕ → Line → Table → ℕ → Bool
+memberAt d x t at = ltb at (length t) && leb d (differOf x (row t at))
 
 abbrev pub top : Range → ℕ
 top (a to b) = b
@@ -45,13 +47,23 @@ bottom (a to b) = a
 unfoldable pub follow : Range → Range → Bool → Bool
 follow p q same = ltb (top p) (bottom q) && not (eqb (bottom q) (suc (top p)) && same)
 
-unfoldable pub followAt : ℕ → List ℕ → ℕ → ℕ → Bool
-followAt d w i k =
-    follow (nth (lineOf w i) d) (nth (lineOf w k) d) (eqTable (under (suc d) (lineOf w i) (rows w i)) (under (suc d) (lineOf w k) (rows w k)))
+unfoldable pub followAt : ℕ → Table → ℕ → ℕ → Bool
+followAt d t i k =
+    follow (nth (row t i) d) (nth (row t k) d) (eqTable (under (suc d) (row t i) (rows t i)) (under (suc d) (row t k) (rows t k)))
+
+-- the run of the line at i in range d ends before the line at k, which is of the same group
+pub record Next (d : ℕ) (t : Table) (i k : ℕ) : Type 0 where
+  pub below : d < 6
+  pub onward : i < k
+  pub within : k < length t
+  pub run : suc d ≤ differOf (row t i) (row t (k - 1))
+  pub alike : d ≤ differOf (row t (k - 1)) (row t k)
+  pub ended : differOf (row t (k - 1)) (row t k) ≤ d
 
 -- what the group of the line at a place tells
-pub record Grouped (d : ℕ) (x : Line) (w : List ℕ) (at : ℕ) (r : Ran) : Type 0 where
-  pub test : r .good ≡ canonical (drop d widths) (under d x (rows w at))
-  pub rest : r .good ≡ true → rows w (r .end) ≡ past d x (rows w at)
+pub record Grouped (d : ℕ) (x : Line) (t : Table) (at : ℕ) (r : Ran) : Type 0 where
+  pub test : r .good ≡ canonical (drop d widths) (under d x (rows t at))
+  pub rest : r .good ≡ true → rows t (r .end) ≡ past d x (rows t at)
   pub further : r .good ≡ true → at < r .end
-  pub within : r .good ≡ true → r .end ≤ length w
+  pub within : r .good ≡ true → r .end ≤ length t
+  pub last : r .good ≡ true → d ≤ differOf x (row t (r .end - 1))

@@ -4,5 +4,5 @@ pub mod Words
 pub mod Line
 pub mod Stored
 pub mod Groups
-pub mod Gathered
+pub mod Marks
 pub mod Writing

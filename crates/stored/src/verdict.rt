@@ -1,28 +1,23 @@
 // The verdict of a stored table on a flow.
 ghost use mathlib.Core.Path.{_≡_};
 ghost use mathlib.Core.Bool.{_||_};
-ghost use Prim.Native.Nat.{_+_, _/_, _%_, _≤_, _<_};
-ghost use mathlib.Core.List.{[], _∷_};
-ghost use lib.ListN.{length, take, drop};
-ghost use Rattle.text.specs.Written.{Put};
+ghost use Prim.Native.Nat.{_/_, _%_, _≤_};
+ghost use lib.ListN.{length, drop};
 ghost use Rattle.flows.specs.Table.{inRange, inLine};
-ghost use Rattle.flows.specs.Flow.{widths};
-ghost use Rattle.flows.specs.Canonical.{canonical};
-ghost use Rattle.stored.specs.Words.{Fits};
-ghost use Rattle.stored.specs.Groups.{rows};
 ghost use Rattle.flows.specs.Numbers.{pointOf};
 ghost use Rattle.stored.specs.Line.{ranges};
 ghost use Rattle.stored.specs.Stored.{allZero, verdictOf};
-ghost use Rattle.stored.specs.Gathered.{wordsOf, AllGathered};
+ghost use Rattle.stored.specs.Marks.{Related, AllGathered};
 use crate::answer::Verdict;
 use crate::chunks;
+use crate::groups;
 use crate::lines;
 use crate::lines::Line;
 use crate::lines::Read;
 
-// Where the words of the lines and the lines of the text end, and whether a line holds the flow.
+// How many lines have marks, where the lines of the text end, and whether a line holds the flow.
 pub struct Gathered {
-    pub end: usize,
+    pub count: usize,
     pub stop: usize,
     pub hit: bool,
 }
@@ -66,58 +61,54 @@ fn either(a: bool, b: bool) -> bool
     b
 }
 
-fn put_word(words: &mut [u64], at: usize, x: u64) -> usize
-    requires { ⌜ at < length (now words) ⌝ }
-    ensures { λ r. ⌜ Put (now (words .entry)) at (x ∷ []) r (now (words .exit)) ⌝ }
-{
-    words[at] = x;
-    at + 1
+fn no_line() -> Line {
+    Line {
+        direction: 0,
+        protocol: 0,
+        opener: 0,
+        address: 0,
+        remote: 0,
+        device: 0,
+    }
 }
 
-fn put_three(words: &mut [u64], at: usize, a: u64, b: u64, c: u64) -> usize
-    requires { ⌜ at + 3 ≤ length (now words) ⌝ }
-    ensures { λ r. ⌜ Put (now (words .entry)) at (a ∷ (b ∷ (c ∷ []))) r (now (words .exit)) ⌝ }
+// The mark of a line that ends at a place, after the line `before`.
+fn mark(before: Line, l: Line, end: usize) -> u32
+    requires { ⌜ end ≤ 36864 ⌝ }
+    ensures { λ r. ⌜ (r / 64 ≡ end) × Related (ranges before) (ranges l) (r % 64) ⌝ }
 {
-    let p = put_word(words, at, a);
-    let q = put_word(words, p, b);
-    put_word(words, q, c)
+    end as u32 * 64 + groups::relate(before, l)
 }
 
-// A line in six words; the place after it.
-fn put_line(words: &mut [u64], at: usize, l: Line) -> usize
-    requires { ⌜ at + 6 ≤ length (now words) ⌝ }
-    ensures { λ r. ⌜ Put (now (words .entry)) at (wordsOf l) r (now (words .exit)) ⌝ }
+// The lines of the text, at most 512, each by its mark.
+fn gather(s: &[u8], marks: &mut [u32], f: flows::Numbers) -> Gathered
+    requires { ⌜ (length (now s) ≡ 36864) × (length (now marks) ≡ 512) ⌝ }
+    ensures { λ r. ⌜ AllGathered (now (s .entry)) (pointOf f) (now (marks .exit)) r ⌝ }
 {
-    let p = put_three(words, at, l.direction, l.protocol, l.opener);
-    put_three(words, p, l.address, l.remote, l.device)
-}
-
-// The lines of the text, at most 512, as words.
-fn gather(s: &[u8], words: &mut [u64], f: flows::Numbers) -> Gathered
-    requires { ⌜ length (now words) ≡ 3072 ⌝ }
-    ensures { λ r. ⌜ AllGathered (now (s .entry)) (pointOf f) (now (words .exit)) r ⌝ }
-{
-    let mut end = 0;
+    let mut n = 0;
     let mut at = 0;
+    let mut before = no_line();
     let mut hit = false;
-    while end < 3072 {
+    while n < 512 {
         match lines::line_at(s, at) {
             Read::NoLine => {
                 return Gathered {
-                    end: end,
+                    count: n,
                     stop: at,
                     hit: hit,
                 };
             }
             Read::Got(l, next) => {
-                end = put_line(words, end, l);
+                marks[n] = mark(before, l, next);
                 hit = either(hit, holds(l, f));
+                before = l;
                 at = next;
+                n += 1;
             }
         }
     }
     Gathered {
-        end: end,
+        count: n,
         stop: at,
         hit: hit,
     }
@@ -157,14 +148,6 @@ fn zeros(s: &[u8], at: usize) -> bool
     true
 }
 
-// Whether the first words, up to `end`, are a table's lines.
-fn in_order(words: &[u64], end: usize) -> bool
-    requires { ⌜ (end ≤ length (now words)) × Fits (rows (take end (now words)) 0) ⌝ }
-    ensures { λ r. ⌜ r ≡ canonical widths (rows (take end (now (words .entry))) 0) ⌝ }
-{
-    crate::groups::is_table(&words[..end])
-}
-
 // 13, then 14, or accept or drop: the answers in the order of their numbers.
 pub fn verdict(stored: &[u8], asked: flows::Numbers) -> Verdict
     ensures { λ r. ⌜ r ≡ verdictOf (now (stored .entry)) asked ⌝ }
@@ -172,14 +155,14 @@ pub fn verdict(stored: &[u8], asked: flows::Numbers) -> Verdict
     if stored.len() != 36864 {
         return Verdict::NotTable;
     }
-    let mut words: [u64; 3072] = [0; 3072];
-    let g = gather(stored, &mut words, asked);
+    let mut marks: [u32; 512] = [0; 512];
+    let g = gather(stored, &mut marks, asked);
     let stop = g.stop;
     if !zeros(stored, stop) {
         return Verdict::NotTable;
     }
-    let end = g.end;
-    if !in_order(&words, end) {
+    let n = g.count;
+    if !groups::is_table(stored, &marks, n) {
         return Verdict::NotTable;
     }
     if !flows::is_flow(asked) {

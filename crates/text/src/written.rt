@@ -97,14 +97,6 @@ pub fn clear_bytes(buf: &mut [u8])
     }
 }
 
-pub fn clear_words(words: &mut [u32])
-    ensures { λ _. ⌜ now (words .exit) ≡ replicate (length (now (words .entry))) 0 ⌝ }
-{
-    for i in 0..words.len() {
-        words[i] = 0;
-    }
-}
-
 pub fn clear_longs(longs: &mut [u64])
     ensures { λ _. ⌜ now (longs .exit) ≡ replicate (length (now (longs .entry))) 0 ⌝ }
 {

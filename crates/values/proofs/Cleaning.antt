@@ -1,5 +1,5 @@
 -- Laws of numbers 5 and 6. Assumes nothing.
-use Prim.Native.Nat.{ℕ, _+_, _-_, _^_, _≤_, _<_}
+use Prim.Native.Nat.{ℕ, _+_, _-_, _≤_, _<_}
 use mathlib.Core.Path.{_≡_, refl, ap, sym, subst, _∙_}
 use mathlib.Core.List.{List}
 use mathlib.Core.Bool.{Bool, true, false, _&&_}
@@ -28,7 +28,7 @@ use Rattle.values.specs.declared.Entry.the-variants.{Known, Kept, Full}
 use Rattle.values.specs.Names.{Entering, Joined, checkedOf, Rising, Entered, Below, grownOf, fineOf}
 use Rattle.values.proofs.Walking.{members-turn, elements-turn, after-done, after-wrong, after-more, element-after-done, element-after-more, member-less, place-end}
 use Rattle.values.proofs.Trees.{tree-kinds, tree-string, tree-array, tree-object}
-use Rattle.values.proofs.Naming.{Keeps, keeps-from, keeps-end, keeps-below, keeps-on, rising-on, rising-below, entered-below, entered-room, below-then, below-same}
+use Rattle.values.proofs.Naming.{Keeps, keeps-from, keeps-end, keeps-below, keeps-on, rising-on, rising-below, entered-below, entered-room, grown-fits, grown-room, below-then, below-same}
 
 -- is a name absent?
 module _ (w : List ℕ) (d : ℕ) (s : List ℕ) (j : ℕ) {t : Bool} (inv : t ≡ absent w (membersAfter d s j)) {n : Next} (e : n ≡ memberAt (valueAt d s) s j) where
@@ -196,26 +196,19 @@ module _ (d : ℕ) (s : List ℕ) (at : ℕ) {r : Read} (e : r ≡ tokenAt 125 s
 
 -- one member
 module _ (d : ℕ) (s : List ℕ) (j v : ℕ) (a : List ℕ) (lo hi : ℕ) (l : lo ≤ hi) (m : hi ≤ length a) (x : ℕ) (b : List ℕ) (r : Entry) (en : Entered s x a lo hi b r) where
-  pub grown-fits : length a < 2 ^ 64 → grownOf hi r ≤ 18446744073709551615
-  grown-fits n = let o = entered-room s x a b lo hi r en m .1 in omega arith
+  module _ {top : ℕ} (gr : top ≡ grownOf hi r) {i : ℕ} (sk : i ≡ spanAt isSpace s v) {t : Checked} (ch : t ≡ checkedOf (valueAt d s i) (clean (treeAt d s i))) (c : List ℕ) (bl : Below top b c) where
+    pub joined-halt : {k : ℕ} → t ≡ Refused k → Joined d s j v a lo hi c (Halt k)
+    unfolding Joined
+    joined-halt {k} u =
+        let o = entered-room s x a b lo hi r en m .0 in
+        let y : valueAt d s i ≡ Bad k = checked-bad _ _ (sym u ∙ ch) in
+        (rw (← sk) y, below-then (omega arith) (entered-below s x a b lo hi r en) bl)
 
-  module _ {top : ℕ} (gr : top ≡ grownOf hi r) where
-    pub grown-room : top ≤ length b
-    grown-room = let o = entered-room s x a b lo hi r en m .1 in let n = entered-below s x a b lo hi r en .long in omega arith
-
-    module _ {i : ℕ} (sk : i ≡ spanAt isSpace s v) {t : Checked} (ch : t ≡ checkedOf (valueAt d s i) (clean (treeAt d s i))) (c : List ℕ) (bl : Below top b c) where
-      pub joined-halt : {k : ℕ} → t ≡ Refused k → Joined d s j v a lo hi c (Halt k)
-      unfolding Joined
-      joined-halt {k} u =
-          let o = entered-room s x a b lo hi r en m .0 in
-          let y : valueAt d s i ≡ Bad k = checked-bad _ _ (sym u ∙ ch) in
-          (rw (← sk) y, below-then (omega arith) (entered-below s x a b lo hi r en) bl)
-
-      pub joined-past : {e : ℕ} {z : Bool} → t ≡ Value e z → nameAt s j ≡ bytesAt s x → {f : Bool} → f ≡ fineOf (allBytes (nameAt s j)) (absent (nameAt s j) (membersAfter d s j)) r → {w : Bool} → w ≡ (f && z) → Joined d s j v a lo hi c (Past e top w)
-      unfolding Joined
-      joined-past {e} {z} u nm fi w =
-          let y : (valueAt d s i ≡ End e) × (z ≡ clean (treeAt d s i)) = checked-end _ _ (sym u ∙ ch) in
-          record { name = x; stands = nm; entry = r; within = b; entered = en; grown = gr; kept = bl; ended = rw (← sk) (y .0); fine = w ∙ rw (fi, y .1, sk) }
+    pub joined-past : {e : ℕ} {z : Bool} → t ≡ Value e z → nameAt s j ≡ bytesAt s x → {f : Bool} → f ≡ fineOf (allBytes (nameAt s j)) (absent (nameAt s j) (membersAfter d s j)) r → {w : Bool} → w ≡ (f && z) → Joined d s j v a lo hi c (Past e top w)
+    unfolding Joined
+    joined-past {e} {z} u nm fi w =
+        let y : (valueAt d s i ≡ End e) × (z ≡ clean (treeAt d s i)) = checked-end _ _ (sym u ∙ ch) in
+        record { name = x; stands = nm; entry = r; within = b; entered = en; grown = gr; kept = bl; ended = rw (← sk) (y .0); fine = w ∙ rw (fi, y .1, sk) }
 
 pub ruleset joining = (needs, grown-fits, grown-room, joined-halt, joined-past)
 

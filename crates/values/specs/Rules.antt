@@ -1,11 +1,11 @@
 -- The words that rules over a tree are put together from.
 use Prim.Native.Nat.{ℕ}
-use mathlib.Core.List.{List}
+use mathlib.Core.List.{List, []}
 use mathlib.Core.Bool.{Bool, true, false, cond, _&&_}
 use lib.Dec.{leb}
 use Rattle.values.specs.declared.Count.{Count}
 use Rattle.values.specs.declared.Count.the-variants.{Is, Not}
-use Rattle.values.specs.Tree.{Json, null, bool, integer, real, string, array, object, Elements, no-more, element, Members, nothing, member, Maybe, none, some}
+use Rattle.values.specs.Tree.{Json, null, bool, integer, real, string, array, object, Elements, no-more, element, Members, nothing, member, Maybe, none, some, lookup}
 
 -- a member that must be there, and one that may be missing
 abbrev pub must : Maybe → (Json → Bool) → Bool
@@ -15,6 +15,34 @@ must (some j) f = f j
 abbrev pub may : Maybe → (Json → Bool) → Bool
 may none f = true
 may (some j) f = f j
+
+-- what a rule finds in what was found; the member of that name in it; one thing, or else the other
+abbrev pub inside : Maybe → (Json → Maybe) → Maybe
+inside none f = none
+inside (some j) f = f j
+
+abbrev pub under : List ℕ → Maybe → Maybe
+under name m = inside m (lookup name)
+
+abbrev pub orOther : Maybe → Maybe → Maybe
+orOther none b = b
+orOther (some j) b = some j
+
+-- one thing where it is there, another where not
+abbrev pub ifThere : {A : Type 0} → Maybe → A → A → A
+ifThere none x y = y
+ifThere (some j) x y = x
+
+-- the bytes of a string; nothing else has any
+abbrev pub bytesIn : Maybe → List ℕ
+bytesIn none = []
+bytesIn (some null) = []
+bytesIn (some (bool b)) = []
+bytesIn (some (integer n)) = []
+bytesIn (some real) = []
+bytesIn (some (string b)) = b
+bytesIn (some (array es)) = []
+bytesIn (some (object ms)) = []
 
 -- an integer from low to high
 abbrev pub within : ℕ → ℕ → Count → Bool

@@ -4,7 +4,7 @@ pub mod decode; // the bytes that a string stands for, one by one
 pub mod strings; // comparing strings while they are decoded
 pub mod walk; // members and elements
 pub mod plain; // kinds of values, and integers
-mod names; // the names of an object in rising order
+pub mod names; // names in rising order
 pub mod clean; // number 6: names twice, and surrogates without partner
 
 // What is left of a string: the bytes of a character, and the place after it.

@@ -8,5 +8,6 @@ read-entry-spec =
     (tie.spec
     (λ c κs. search walking)
     (λ c κs. search walking)
+    (λ c κs. search walking)
     (λ c. search walking)
     (λ c. search walking))

@@ -16,8 +16,6 @@ is-known-spec =
     tie.close
     (tie.spec
     (λ c. search entering)
-    (λ c κs. search entering)
-    (λ c. search entering)
     (λ c. search entering)
     (λ c κs. search entering)
     returns

@@ -29,15 +29,11 @@ matches-known-spec =
     (tie.spec
     (λ c κs. search entering)
     returns
-    (λ c. search entering)
     (λ c κs. search entering)
     returns-2
-    (λ c. search entering)
     (λ c κs. search entering)
     returns-3
-    (λ c. search entering)
     (λ c κs. search entering)
     returns-4
-    (λ c. search entering)
     (λ c κs. search entering)
     returns-5)

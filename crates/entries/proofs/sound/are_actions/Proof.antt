@@ -16,8 +16,6 @@ are-actions-spec =
     tie.close
     (tie.spec
     (λ c. search entering)
-    (λ c κs. search entering)
-    (λ c. search entering)
     (λ c. search entering)
     (λ c. search entering)
     (λ c κs. search entering)

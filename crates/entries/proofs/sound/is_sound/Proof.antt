@@ -22,8 +22,6 @@ is-sound-spec =
     (λ c κs. search entering)
     returns
     (λ c. search entering)
-    (λ c κs. search entering)
-    (λ c. search entering)
     (λ c. search entering)
     (λ c κs. search entering)
     returns-2

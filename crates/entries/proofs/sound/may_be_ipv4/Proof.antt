@@ -7,8 +7,6 @@ may-be-ipv4-spec =
     tie.close
     (tie.spec
     (λ c. search entering)
-    (λ c κs. search entering)
-    (λ c. search entering)
     (λ c. search entering)
     (λ c κs. search entering)
     (λ c. search entering)

@@ -7,8 +7,6 @@ may-be-mud-spec =
     tie.close
     (tie.spec
     (λ c. search entering)
-    (λ c κs. search entering)
-    (λ c. search entering)
     (λ c. search entering)
     (λ c κs. search entering)
     (λ c. search entering)

@@ -21,7 +21,6 @@ tcp-beside-spec =
     (tie.spec
     (λ c κs. search entering)
     returns
-    (λ c. search entering)
     (λ c κs. search entering)
     returns-2
     (λ c κs. search entering)

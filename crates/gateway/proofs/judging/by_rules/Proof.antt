@@ -23,6 +23,7 @@ by-rules-spec =
     (λ c κs. search needs)
     returns
     (λ c κs. search needs)
+    (λ c. search needs)
     returns-2
     (λ c κs. search needs)
     (λ c. search needs)

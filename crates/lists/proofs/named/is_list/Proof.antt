@@ -13,5 +13,6 @@ is-list-spec =
     (λ c κs. search listing)
     (λ c. search listing)
     (λ c. search listing)
+    (λ c. search listing)
     (λ c κs. search listing)
     (λ c. search listing))

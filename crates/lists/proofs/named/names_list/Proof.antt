@@ -11,4 +11,5 @@ names-list-spec =
     (λ c. search listing)
     (λ c κs. search listing)
     (λ c. search listing)
+    (λ c. search listing)
     (λ c. search listing))

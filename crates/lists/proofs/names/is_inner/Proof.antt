@@ -27,4 +27,5 @@ is-inner-spec =
     (λ c κs. search naming)
     (λ c κs. search naming)
     returns-2
+    (λ c. search naming)
     returns-3)

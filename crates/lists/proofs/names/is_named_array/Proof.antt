@@ -24,4 +24,5 @@ is-named-array-spec =
     (λ c κs. search chained)
     returns-2
     (λ c κs. search chained)
+    (λ c. search chained)
     returns-3)

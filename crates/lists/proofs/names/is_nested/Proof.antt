@@ -21,4 +21,5 @@ is-nested-spec =
     (λ c κs. search naming)
     (λ c κs. search naming)
     returns
+    (λ c. search naming)
     returns-2)

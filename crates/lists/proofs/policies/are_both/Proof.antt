@@ -16,6 +16,8 @@ are-both-spec =
     tie.close
     (tie.spec
     (λ c κs. search listing)
+    (λ c. search listing)
     returns
     (λ c κs. search listing)
+    (λ c. search listing)
     returns-2)

@@ -8,10 +8,13 @@ is-direction-spec =
     (tie.spec
     (λ c κs. search listing)
     (λ c. search listing)
+    (λ c. search listing)
     (λ c κs. search listing)
     (λ c. search listing)
     (λ c. search listing)
     (λ c κs. search listing)
     (λ c κs. search listing)
+    (λ c. search listing)
+    (λ c. search listing)
     (λ c. search listing)
     (λ c. search listing))

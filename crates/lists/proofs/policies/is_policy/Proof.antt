@@ -20,4 +20,5 @@ is-policy-spec =
     (λ c. search listing)
     (λ c. search listing)
     (λ c κs. search listing)
+    (λ c. search listing)
     returns-2)

@@ -20,4 +20,5 @@ may-be-policy-spec =
     (λ c. search listing)
     (λ c κs. search listing)
     returns
+    (λ c. search listing)
     returns-2)

@@ -6,12 +6,8 @@ pub put-names-spec : {M : Type 1} → statement M
 put-names-spec =
     tie.close
     (tie.spec
-    (λ c. search rowing)
     (λ c κs. search rowing)
     (λ c κs. search rowing)
-    (λ c κs. search rowing)
-    (λ c κs. search rowing)
-    (λ c. search rowing)
     (λ c κs. search rowing)
     (λ c κs. search rowing)
     (λ c. search rowing)

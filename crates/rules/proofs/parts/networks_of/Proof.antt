@@ -6,8 +6,6 @@ pub networks-of-spec : {M : Type 1} → statement M
 networks-of-spec =
     tie.close
     (tie.spec
-    (λ c. search parting)
-    (λ c κs. search parting)
     (λ c κs. search parting)
     (λ c κs. search parting)
     (λ c. search parting))

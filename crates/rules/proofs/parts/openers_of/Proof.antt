@@ -8,7 +8,5 @@ openers-of-spec =
     (tie.spec
     (λ c. search parting)
     (λ c κs. search parting)
-    (λ c. search parting)
-    (λ c κs. search parting)
     (λ c κs. search parting)
     (λ c. search parting))

@@ -7,17 +7,11 @@ protocols-of-spec =
     tie.close
     (tie.spec
     (λ c. search parting)
-    (λ c κs. search parting)
     (λ c. search parting)
     (λ c. search parting)
     (λ c. search parting)
     (λ c. search parting)
-    (λ c κs. search parting)
     (λ c. search parting)
-    (λ c. search parting)
-    (λ c. search parting)
-    (λ c. search parting)
-    (λ c κs. search parting)
     (λ c. search parting)
     (λ c κs. search parting)
     (λ c κs. search parting)

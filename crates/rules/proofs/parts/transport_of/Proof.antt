@@ -7,10 +7,6 @@ transport-of-spec =
     tie.close
     (tie.spec
     (λ c. search parting)
-    (λ c κs. search parting)
     (λ c. search parting)
-    (λ c. search parting)
-    (λ c. search parting)
-    (λ c κs. search parting)
     (λ c. search parting)
     (λ c. search parting))

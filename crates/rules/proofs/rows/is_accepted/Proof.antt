@@ -7,8 +7,6 @@ is-accepted-spec =
     tie.close
     (tie.spec
     (λ c. search rowing)
-    (λ c κs. search rowing)
-    (λ c. search rowing)
     (λ c. search rowing)
     (λ c. search rowing)
     (λ c. search rowing)

@@ -1,4 +1,4 @@
-use Rattle.stored.proofs.Turning.{pairing}
+use Rattle.stored.proofs.Turning.{following}
 use Rattle.stored.proofs.groups.follows.Statement.{statement}
 use Rattle.stored.proofs.groups.follows.Tie as tie
 
@@ -6,18 +6,11 @@ pub follows-spec : {M : Type 1} → statement M
 follows-spec =
     tie.close
     (tie.spec
-    (λ c. search pairing)
-    (λ c. search pairing)
-    (λ c. search pairing)
-    (λ c κs. search pairing)
-    (λ c. search pairing)
-    (λ c. search pairing)
-    (λ c. search pairing)
-    (λ c κs. search pairing)
-    (λ c. search pairing)
-    (λ c. search pairing)
-    (λ c. search pairing)
-    (λ c κs. search pairing)
-    (λ c. search pairing)
-    (λ c. search pairing)
-    (λ c. search pairing))
+    (λ c. search following)
+    (λ c. search following)
+    (λ c. search following)
+    (λ c. search following)
+    (λ c κs. search following)
+    (λ c. search following)
+    (λ c. search following)
+    (λ c. search following))

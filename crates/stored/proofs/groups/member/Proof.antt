@@ -8,5 +8,6 @@ member-spec =
     (tie.spec
     (λ c. search pairing)
     (λ c. search pairing)
+    (λ c. search pairing)
     (λ c κs. search pairing)
     (λ c. search pairing))
