@@ -9,7 +9,6 @@ use borrow.Author.Tests.{lt-ltb, le-ltb}
 use Rattle.text.specs.Ascii.{ascii}
 use Rattle.text.specs.Written.{Put}
 use Rattle.flows.specs.declared.Direction.the-variants.{FromDevice, ToDevice}
-use Rattle.json.specs.Reading.{isSpace, spanAt}
 use Rattle.values.specs.declared.Found.{Found}
 use Rattle.values.specs.declared.Found.the-variants.{At, Missing}
 use Rattle.values.specs.Decode.{bytesAt}
@@ -45,14 +44,14 @@ both-walked s site file mud url f {t} {r} {w} {m} {o} e a g h =
           (h .words ∙ ap₂ (λ (x : Tally) (y : List ℕ). putAll (x .count) (rowsOf ToDevice site b to) y) (g .tally) (g .words));
     }
 
-module _ (s site w : List ℕ) {i : ℕ} (z : i ≡ spanAt isSpace s 0) {f : Found} (e : lookup (ascii "ietf-mud:mud") (treeAt 16 s i) ≡ seen (treeAt 15 s) f) where
+module _ (s site w : List ℕ) {f : Found} (e : lookup (ascii "ietf-mud:mud") (treeOf 16 s) ≡ seen (treeAt 15 s) f) where
   pub entries-none : f ≡ Missing → EntriesRead site (treeOf 16 s) w none w
-  unfolding tallyOf entryWords entriesOf treeOf seeAll putAll
-  entries-none q = record { tally = rw (← z, e, q); words = rw (← z, e, q) }
+  unfolding tallyOf entryWords entriesOf seeAll putAll
+  entries-none q = record { tally = rw (e, q); words = rw (e, q) }
 
   pub entries-some : {mud : ℕ} → f ≡ At mud → {r : Tally} {m : List ℕ} → BothWalked site (treeOf 16 s) (treeAt 15 s mud) w r m → EntriesRead site (treeOf 16 s) w r m
-  unfolding tallyOf entryWords entriesOf urlOf treeOf
-  entries-some q h = record { tally = h .tally ∙ rw (← z, e, q); words = h .words ∙ rw (← z, e, q) }
+  unfolding tallyOf entryWords entriesOf urlOf
+  entries-some q h = record { tally = h .tally ∙ rw (e, q); words = h .words ∙ rw (e, q) }
 
 pub all-read : (site : List ℕ) (file : Json) (w : List ℕ) {t : Tally} {m n o : List ℕ} → m ≡ networkWords site ++ drop 64 w → EntriesRead site file m t n → o ≡ putDefaults (t .count) site n → ReadIn site file w t o
 unfolding wordsFor

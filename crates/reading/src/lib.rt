@@ -9,6 +9,7 @@ use lists::named::list_of;
 use lists::named::nested_at;
 use lists::policies::lists_of;
 use lists::policies::policy_lists;
+use reader::in_file;
 use rules::defaults::put_dns;
 use rules::defaults::put_ntp;
 use rules::names::string_place;
@@ -231,7 +232,7 @@ fn read_entries(s: &[u8], site: &[u8], work: &mut [u64]) -> Tally
     requires { ⌜ length (lines (now site) 0) ≤ 64 ⌝ }
     ensures { λ r. ⌜ EntriesRead (now (site .entry)) (treeOf 16 (now (s .entry))) (now (work .entry)) r (now (work .exit)) ⌝ }
 {
-    match member(s, skip(s, 0), 16, b"ietf-mud:mud") {
+    match in_file(s, b"ietf-mud:mud") {
         Found::Missing => Tally {
             known: true,
             sound: true,

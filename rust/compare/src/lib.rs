@@ -15,6 +15,7 @@ pub mod loose;
 pub mod sites;
 pub mod stored;
 pub mod things;
+pub mod timing;
 pub mod value;
 pub mod workloads;
 

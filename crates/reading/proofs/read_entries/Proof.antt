@@ -6,7 +6,6 @@ pub read-entries-spec : {M : Type 1} → statement M
 read-entries-spec =
     tie.close
     (tie.spec
-    (λ c κs. search reads)
     (λ c. search reads)
     (λ c κs. search reads)
     (λ c. search reads)

@@ -5,25 +5,14 @@
 //! library is the slower one.
 
 use std::hint::black_box;
-use std::time::{Duration, Instant, SystemTime};
 
+use compare::timing;
 use compare::workloads::{builds, full_table, Workload};
 use mirokdeul::{DevicePort, Flow, RemotePort, REPLY_LEN, WORK_LEN};
 
-/// How long a turn lasts at least. Short turns are seldom cut by other work on the machine, and the
-/// median does not mind the few that are.
-const TURN: Duration = Duration::from_micros(800);
-
 fn main() {
     let rounds = std::env::args().nth(1).and_then(|text| text.parse().ok()).unwrap_or(101);
-    println!(
-        "machine: {}, {} cores",
-        processor(),
-        std::thread::available_parallelism().map_or(0, |count| count.get())
-    );
-    println!("date: {}", today());
-    println!("sides: {}", compare::sides());
-    println!("rounds: {rounds}, alternating; medians\n");
+    timing::print_head(compare::sides(), rounds);
     println!("| workload | library, µs | plain, µs | ratio |");
     println!("|---|---:|---:|---:|");
     for workload in builds() {
@@ -79,76 +68,6 @@ fn bench_verdicts(rounds: usize) {
 
 /// Times the two in turns and prints a line of the table.
 fn report(name: &str, rounds: usize, mut library: impl FnMut(), mut plain: impl FnMut()) {
-    let (library_calls, plain_calls) = (calls_per_turn(&mut library), calls_per_turn(&mut plain));
-    let (mut library_times, mut plain_times) = (Vec::new(), Vec::new());
-    for _ in 0..rounds {
-        library_times.push(time(&mut library, library_calls));
-        plain_times.push(time(&mut plain, plain_calls));
-    }
-    let (library, plain) = (median(library_times), median(plain_times));
+    let [library, plain] = timing::medians(rounds, [&mut library, &mut plain]);
     println!("| {name} | {library:.1} | {plain:.1} | {:.2} |", library / plain);
-}
-
-/// How many calls fill a turn. Also warms up.
-fn calls_per_turn(call: &mut impl FnMut()) -> u32 {
-    let mut calls = 1;
-    loop {
-        let start = Instant::now();
-        for _ in 0..calls {
-            call();
-        }
-        if start.elapsed() >= TURN {
-            return calls;
-        }
-        calls *= 2;
-    }
-}
-
-/// The microseconds of one call, over `calls` of them.
-fn time(call: &mut impl FnMut(), calls: u32) -> f64 {
-    let start = Instant::now();
-    for _ in 0..calls {
-        call();
-    }
-    start.elapsed().as_secs_f64() * 1e6 / f64::from(calls)
-}
-
-fn median(mut times: Vec<f64>) -> f64 {
-    times.sort_by(f64::total_cmp);
-    times[times.len() / 2]
-}
-
-fn processor() -> String {
-    let information = std::fs::read_to_string("/proc/cpuinfo").unwrap_or_default();
-    let name = information.lines().find_map(|line| line.strip_prefix("model name"));
-    name.map_or("unknown", |name| name.trim_start_matches([' ', '\t', ':'])).to_owned()
-}
-
-/// The date of today, from the days since 1970 by the rules of the calendar.
-fn today() -> String {
-    let seconds = SystemTime::now().duration_since(SystemTime::UNIX_EPOCH).map_or(0, |time| time.as_secs());
-    let mut days = seconds / 86_400;
-    let mut year = 1970;
-    loop {
-        let length = if is_leap(year) { 366 } else { 365 };
-        if days < length {
-            break;
-        }
-        days -= length;
-        year += 1;
-    }
-    let february = if is_leap(year) { 29 } else { 28 };
-    let mut month = 1;
-    for length in [31, february, 31, 30, 31, 30, 31, 31, 30, 31, 30, 31] {
-        if days < length {
-            break;
-        }
-        days -= length;
-        month += 1;
-    }
-    format!("{year}-{month:02}-{:02}", days + 1)
-}
-
-fn is_leap(year: u64) -> bool {
-    year.is_multiple_of(4) && (!year.is_multiple_of(100) || year.is_multiple_of(400))
 }
