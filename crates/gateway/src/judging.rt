@@ -3,6 +3,7 @@
 use crate::Answer;
 use crate::Reason;
 use builder::Built;
+use lists::index::Index;
 use site::table::Judged;
 use values::Verdict;
 ghost use mathlib.Core.Path.{_≡_};
@@ -14,6 +15,8 @@ ghost use Rattle.flows.specs.Flow.{widths};
 ghost use Rattle.flows.specs.Rules.{letThrough};
 ghost use Rattle.builder.specs.Encoding.{rulesOf};
 ghost use Rattle.values.specs.Tree.{treeOf};
+ghost use Rattle.lists.specs.Lists.{listsOf};
+ghost use Rattle.lists.specs.Index.{Indexed};
 ghost use Rattle.site.specs.Site.{judged};
 ghost use Rattle.site.specs.declared.table.Judged.the-variants.{Sound};
 ghost use Rattle.gateway.specs.Answer.{tableFor, byLength, byEntries, byRules, byFile, sized, answerOf};
@@ -34,11 +37,11 @@ fn by_length(work: &mut [u64], n: usize, reply: &mut [u8]) -> Answer
 }
 
 // 9 to 12.
-fn by_entries(file: &[u8], site: &[u8], work: &mut [u64], reply: &mut [u8]) -> Answer
-    requires { ⌜ (judged (now site) ≡ Sound) × (length (now work) ≡ 16290) × (length (now reply) ≡ 36864) ⌝ }
+fn by_entries(file: &[u8], site: &[u8], work: &mut [u64], index: Index, reply: &mut [u8]) -> Answer
+    requires { ⌜ (judged (now site) ≡ Sound) × (length (now work) ≡ 16290) × (length (now reply) ≡ 36864) × Indexed (now file) (listsOf (treeOf 16 (now file))) (now work) index ⌝ }
     ensures { λ r. ⌜ Answered (byEntries (treeOf 16 (now (file .entry))) (byLength (tableFor (now (file .entry)) (now (site .entry))))) (tableFor (now (file .entry)) (now (site .entry))) r (now (reply .exit)) ⌝ }
 {
-    let t = reading::read(file, site, work);
+    let t = reading::read(file, site, work, index);
     if !t.known {
         return Answer::Refused(Reason::UnknownMember);
     }
@@ -60,10 +63,11 @@ fn by_rules(file: &[u8], site: &[u8], work: &mut [u64], reply: &mut [u8]) -> Ans
     if !header::header::is_mud_file(file) {
         return Answer::Refused(Reason::Header);
     }
-    if !lists::policies::are_policies(file, work) {
+    let index = lists::index::gather(file, work);
+    if !lists::policies::are_policies(file, work, index) {
         return Answer::Refused(Reason::Lists);
     }
-    by_entries(file, site, work, reply)
+    by_entries(file, site, work, index, reply)
 }
 
 // 4 to 12.

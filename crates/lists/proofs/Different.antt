@@ -14,7 +14,7 @@ use Rattle.values.specs.declared.Spot.the-variants.{Taken, Free}
 use Rattle.values.specs.declared.Entry.{Entry}
 use Rattle.values.specs.declared.Entry.the-variants.{Known, Kept, Full}
 use Rattle.values.specs.Decode.{bytesAt}
-use Rattle.values.specs.Names.{keyAt, Rising, Spotted, Inserted, Entered, grownOf}
+use Rattle.values.specs.Names.{nameIn, keyAt, Rising, Spotted, Inserted, Entered, grownOf}
 use Rattle.values.proofs.Naming.{kept-all, kept-each, free-differ, rising-on, grown-room, entered-below}
 use Rattle.header.specs.Asked.{isAmong}
 use Rattle.lists.specs.declared.names.Beside.the-variants.{Twice, Once}
@@ -61,7 +61,7 @@ different-whole : (n : List ℕ) (ns : List (List ℕ)) → isAmong n ns ≡ fal
 unfolding allDifferent
 different-whole n ns e f = rw (e, f)
 
-refuted : (b : Bool) → (b ≡ true → ⊥) → false ≡ b
+pub refuted : (b : Bool) → (b ≡ true → ⊥) → false ≡ b
 refuted true f = absurd (f refl)
 refuted false f = refl
 
@@ -75,24 +75,24 @@ once-fresh true n m e = absurd (let z : _≡_ {A = ℕ} 0 1 = cc in omega arith)
 once-fresh false n m e = (refl, cc)
 
 -- one name more was entered
-module _ {whole : Bool} (s : List ℕ) (x : ℕ) {a₀ : List ℕ} (a b : List ℕ) (hi : ℕ) (ns : List (List ℕ)) (h : Different whole s a₀ a hi (bytesAt s x ∷ ns)) where
+module _ {whole : Bool} (s : List ℕ) (x j : ℕ) {a₀ : List ℕ} (a b : List ℕ) (hi : ℕ) (ns : List (List ℕ)) (h : Different whole s a₀ a hi (bytesAt s x ∷ ns)) where
   later-again : isAmong (bytesAt s x) ns ≡ true → false ≡ whole
   later-again q = refuted whole (λ w. clash q (different-parts _ ns (h .there w .0) .0))
 
-  pub different-again : (r : Entry) → Entered s x a 0 hi b r → againOf (isAmong (bytesAt s x) ns) r ≡ true → false ≡ whole
+  pub different-again : (r : Entry) → Entered s x j a 0 hi b r → againOf (isAmong (bytesAt s x) ns) r ≡ true → false ≡ whole
   unfolding Entered
-  different-again Known e q = refuted whole (λ w. not-among _ _ ns (h .there w .1 (e .1 .0) (e .1 .1) (e .1 .2)) .0 (e .1 .3))
+  different-again Known e q = refuted whole (λ w. not-among _ _ ns (h .there w .1 (e .1) (e .2 .0) (e .2 .1)) .0 (e .2 .2))
   different-again Kept e q = clash {b = false} q refl
   different-again Full e q = later-again q
 
-  after-kept : (p : ℕ) → Spotted s (bytesAt s x) a 0 hi (Free p) → Inserted a b p hi x → (whole ≡ true → (allDifferent ns ≡ true) × Apart s b (hi + 1) ns) × (allDifferent ns ≡ true → Apart s b (hi + 1) ns → whole ≡ true)
-  after-kept p sp ins = (
+  after-kept : (p : ℕ) → Spotted s (bytesAt s x) a 0 hi (Free p) → (w : ℕ) → nameIn w ≡ x → Inserted a b p hi w → (whole ≡ true → (allDifferent ns ≡ true) × Apart s b (hi + 1) ns) × (allDifferent ns ≡ true → Apart s b (hi + 1) ns → whole ≡ true)
+  after-kept p sp y nm ins = (
     λ w.
         let u = h .there w in
         let v = different-parts _ ns (u .0) in
-        (v .1, kept-all s x a b 0 hi p sp ins (λ (y : List ℕ). isAmong y ns ≡ false) (λ k l m. not-among _ _ ns (u .1 k l m) .1) (v .0)),
+        (v .1, kept-all s x a b 0 hi p sp y nm ins (λ (y : List ℕ). isAmong y ns ≡ false) (λ k l m. not-among _ _ ns (u .1 k l m) .1) (v .0)),
     λ q f.
-        let w = kept-each s x a b 0 hi p sp ins (λ (y : List ℕ). isAmong y ns ≡ false) f in
+        let w = kept-each s x a b 0 hi p sp y nm ins (λ (y : List ℕ). isAmong y ns ≡ false) f in
         h .back (different-whole _ ns (w .1) q) (λ k l m. is-apart _ _ ns (free-differ s _ a 0 hi p sp k l m) (w .0 k l m)),
   )
 
@@ -102,13 +102,13 @@ module _ {whole : Bool} (s : List ℕ) (x : ℕ) {a₀ : List ℕ} (a b : List �
     λ q f. h .back (different-whole _ ns n q) (λ k l m. is-apart _ _ ns (free-differ s _ a 0 hi p sp k l m) (f k l m)),
   )
 
-  after-entry : (r : Entry) → Entered s x a 0 hi b r → againOf (isAmong (bytesAt s x) ns) r ≡ false → (whole ≡ true → (allDifferent ns ≡ true) × Apart s b (grownOf hi r) ns) × (allDifferent ns ≡ true → Apart s b (grownOf hi r) ns → whole ≡ true)
+  after-entry : (r : Entry) → Entered s x j a 0 hi b r → againOf (isAmong (bytesAt s x) ns) r ≡ false → (whole ≡ true → (allDifferent ns ≡ true) × Apart s b (grownOf hi r) ns) × (allDifferent ns ≡ true → Apart s b (grownOf hi r) ns → whole ≡ true)
   unfolding Entered
   after-entry Known e q = clash {b = true} refl q
-  after-entry Kept e q = after-kept (e .1) (e .2) (e .3)
+  after-entry Kept e q = after-kept (e .1) (e .2) (e .3) (e .4) (e .6)
   after-entry Full e q = after-full (e .0) (e .1) (e .2) q
 
-  pub different-next : (r : Entry) → Entered s x a 0 hi b r → againOf (isAmong (bytesAt s x) ns) r ≡ false → Different whole s a₀ b (grownOf hi r) ns
+  pub different-next : (r : Entry) → Entered s x j a 0 hi b r → againOf (isAmong (bytesAt s x) ns) r ≡ false → Different whole s a₀ b (grownOf hi r) ns
   different-next r e q =
       let u = after-entry r e q in
-      record { there = u .0; back = u .1; rising = rising-on s x a b 0 hi r e (h .rising); room = grown-room s x a b 0 hi r e (h .room) refl; long = entered-below s x a b 0 hi r e .long ∙ h .long }
+      record { there = u .0; back = u .1; rising = rising-on s x j a b 0 hi r e (h .rising); room = grown-room s x j a b 0 hi r e (h .room) refl; long = entered-below s x j a b 0 hi r e .long ∙ h .long }

@@ -97,7 +97,7 @@ module _ (j : Json) (d : ℕ) (s : List ℕ) {r : Found} (e : items j ≡ itemsF
 pub again-full : (b : Bool) {r : Entry} → r ≡ Full → {t : Bool} → t ≡ b → t ≡ againOf b r
 again-full b e q = rw e q
 
-module _ (d : ℕ) (s : List ℕ) (j : ℕ) {i : ℕ} (g : i ≡ spanAt isSpace s j) (m : ℕ) (h : bytesAt s m ≡ nameAt d s i) {a : List ℕ} {hi : ℕ} (b : List ℕ) (r : Entry) (e : Entered s m a 0 hi b r) {f : Bool} (q : f ≡ againOf (isAmong (bytesAt s m) (namesOf (elementsAfter d s j))) r) where
+module _ (d : ℕ) (s : List ℕ) (j : ℕ) {i : ℕ} (g : i ≡ spanAt isSpace s j) (m : ℕ) (h : bytesAt s m ≡ nameAt d s i) {a : List ℕ} {hi : ℕ} (b : List ℕ) (r : Entry) (e : Entered s m j a 0 hi b r) {f : Bool} (q : f ≡ againOf (isAmong (bytesAt s m) (namesOf (elementsAfter d s j))) r) where
   pub added-twice : f ≡ true → Added d s j a hi b Twice
   added-twice y = record { name = m; stands = rw (← g) h; entry = r; entered = e; told = rw (← q, y) }
 
@@ -110,16 +110,16 @@ module _ (d : ℕ) (s : List ℕ) (j : ℕ) {t : Bool} {a₀ a : List ℕ} {hi :
   different-now = rw (elements-turn d s j, ← (e .stands)) at inv
 
   pub different-not : r ≡ Twice → false ≡ t
-  different-not q = different-again s (e .name) a b hi _ different-now (e .entry) (e .entered) (twice-again _ _ (sym (e .told) ∙ q))
+  different-not q = different-again s (e .name) j a b hi _ different-now (e .entry) (e .entered) (twice-again _ _ (sym (e .told) ∙ q))
 
   pub different-long : length b ≡ length a₀
-  different-long = entered-below s (e .name) a b 0 hi (e .entry) (e .entered) .long ∙ inv .long
+  different-long = entered-below s (e .name) j a b 0 hi (e .entry) (e .entered) .long ∙ inv .long
 
   module _ {n : ℕ} (q : r ≡ Once n) where
     different-left : Different t s a₀ b n (namesOf (elementsAfter d s j))
     different-left =
         let u = once-fresh _ _ _ (sym (e .told) ∙ q) in
-        rw (u .1) (different-next s (e .name) a b hi _ different-now (e .entry) (e .entered) (u .0))
+        rw (u .1) (different-next s (e .name) j a b hi _ different-now (e .entry) (e .entered) (u .0))
 
     module _ {x : Next} (u : x ≡ elementAt (valueAt d s) s j) where
       pub different-done : {k : ℕ} → x ≡ Done k → true ≡ t

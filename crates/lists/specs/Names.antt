@@ -26,5 +26,5 @@ pub record Added (d : ℕ) (s : List ℕ) (j : ℕ) (a : List ℕ) (hi : ℕ) (b
   pub name : ℕ
   pub stands : bytesAt s name ≡ nameOf (lookup (ascii "name") (treeAt d s (spanAt isSpace s j)))
   pub entry : Entry
-  pub entered : Entered s name a 0 hi b entry
+  pub entered : Entered s name j a 0 hi b entry
   pub told : r ≡ cond (againOf (isAmong (bytesAt s name) (namesOf (elementsAfter d s j))) entry) Twice (Once (grownOf hi entry))

@@ -1,10 +1,13 @@
 // Lists by their names.
+use super::index::Index;
+use super::index::above;
 use super::names::is_nested;
 use super::names::name_of;
 use json::Next;
 use json::space::skip;
 use text::bytes::byte_at;
 use values::Found;
+use values::names::find;
 use values::strings::same_string;
 use values::strings::string_is;
 use values::walk::first_item;
@@ -17,6 +20,7 @@ ghost use Rattle.values.specs.Decode.{bytesAt};
 ghost use Rattle.values.specs.Tree.{treeAt, seen, elementsFrom, itemsFrom};
 ghost use Rattle.values.specs.Rules.{firstWith};
 ghost use Rattle.lists.specs.Lists.{isNamed, nested, hasType, listOk, listNamed, namedOk};
+ghost use Rattle.lists.specs.Index.{Indexed};
 
 // Whether the element at a place has the name whose first character stands at `i`.
 fn is_named(s: &[u8], at: usize, i: usize) -> bool
@@ -55,13 +59,24 @@ fn first_named(s: &[u8], at: usize, i: usize) -> Found
     }
 }
 
-// The list that an element of a policy names.
-pub fn list_of(s: &[u8], lists: Found, n: usize) -> Found
+// The list that an element of a policy names, by walking over the lists.
+fn walk_to(s: &[u8], lists: Found, n: usize) -> Found
     ensures { λ r. ⌜ listNamed (itemsFrom 13 (now (s .entry)) lists) (treeAt 11 (now (s .entry)) n) ≡ seen (treeAt 13 (now (s .entry))) r ⌝ }
 {
     match lists {
         Found::Missing => Found::Missing,
         Found::At(at) => first_named(s, at, name_of(s, n, 11)),
+    }
+}
+
+// The list that an element of a policy names.
+pub fn list_of(s: &[u8], lists: Found, n: usize, area: &[u64], index: Index) -> Found
+    requires { ⌜ Indexed (now s) (itemsFrom 13 (now s) lists) (now area) index ⌝ }
+    ensures { λ r. ⌜ listNamed (itemsFrom 13 (now (s .entry)) lists) (treeAt 11 (now (s .entry)) n) ≡ seen (treeAt 13 (now (s .entry))) r ⌝ }
+{
+    match index {
+        Index::Upto(hi) => find(s, name_of(s, n, 11), area, 1555, hi),
+        Index::Without => walk_to(s, lists, n),
     }
 }
 
@@ -100,12 +115,17 @@ fn is_list(s: &[u8], at: usize, area: &mut [u64]) -> bool
     has_type(s, at, b"ipv6-acl-type")
 }
 
-// Whether an element of a policy names a list that there is, and that is one.
-pub fn names_list(s: &[u8], lists: Found, n: usize, area: &mut [u64]) -> bool
+// Whether an element of a policy names a list that there is, and that is one. What `area` held above the names is lost.
+pub fn names_list(s: &[u8], lists: Found, n: usize, area: &mut [u64], index: Index) -> bool
+    requires { ⌜ Indexed (now s) (itemsFrom 13 (now s) lists) (now area) index ⌝ }
     ensures { λ r. ⌜ r ≡ namedOk (itemsFrom 13 (now (s .entry)) lists) (treeAt 11 (now (s .entry)) n) ⌝ }
+    ensures { λ r. ⌜ Indexed (now (s .entry)) (itemsFrom 13 (now (s .entry)) lists) (now (area .exit)) index ⌝ }
 {
-    match list_of(s, lists, n) {
+    match list_of(s, lists, n, area, index) {
         Found::Missing => false,
-        Found::At(at) => is_list(s, at, area),
+        Found::At(at) => {
+            let free = above(index, area.len());
+            is_list(s, at, &mut area[free..])
+        }
     }
 }

@@ -85,7 +85,7 @@ fn add_name(s: &[u8], at: usize, depth: usize, area: &mut [u64], hi: usize) -> B
     ensures { λ r. ⌜ Added depth (now (s .entry)) at (now (area .entry)) hi (now (area .exit)) r ⌝ }
 {
     let i = name_of(s, skip(s, at), depth);
-    let r = enter(s, i, area, 0, hi);
+    let r = enter(s, i, at, area, 0, hi);
     if is_again(s, at, depth, i, r) {
         return Beside::Twice;
     }

@@ -139,7 +139,7 @@ words-long zero ls = refl
 words-long (suc k) [] = ap suc (words-long k [])
 words-long (suc k) (l ∷ ls) = ap suc (words-long k ls)
 
-networks-long : (site : List ℕ) → length (networkWords site) ≡ 64
+pub networks-long : (site : List ℕ) → length (networkWords site) ≡ 64
 unfolding networkWords
 networks-long site = words-long 64 (lines site 0)
 

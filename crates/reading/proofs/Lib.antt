@@ -2,3 +2,4 @@ pub mod Walking
 pub mod Whole
 pub mod Held
 pub mod Lets
+pub mod Finding

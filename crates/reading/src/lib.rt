@@ -4,6 +4,7 @@ use entries::places::parts_of;
 use flows::Direction;
 use json::Next;
 use json::space::skip;
+use lists::index::Index;
 use lists::named::has_type;
 use lists::named::list_of;
 use lists::named::nested_at;
@@ -27,6 +28,7 @@ ghost use Rattle.values.specs.Tree.{treeAt, treeOf, seen, itemsFrom, elementsFr
 ghost use Rattle.site.specs.Site.{lines};
 ghost use Rattle.lists.specs.Lists.{toList, entriesIn, entriesNamed, listNamed, listsOf, policyLists};
 ghost use Rattle.entries.specs.Places.{PartsOf};
+ghost use Rattle.lists.specs.Index.{Indexed};
 ghost use Rattle.rules.specs.Rows.{ruleWords};
 ghost use Rattle.reading.specs.Walked.{more, see, putAt, Walked};
 ghost use Rattle.reading.specs.Read.{putDefaults, BothWalked, EntriesRead, ReadIn};
@@ -142,15 +144,16 @@ fn read_named(
     site: &[u8],
     work: &mut [u64],
     lists: Found,
+    index: Index,
     n: usize,
     d: Direction,
     url: usize,
     t: Tally,
 ) -> Tally
-    requires { ⌜ length (lines (now site) 0) ≤ 64 ⌝ }
+    requires { ⌜ (length (lines (now site) 0) ≤ 64) × Indexed (now s) (itemsFrom 13 (now s) lists) (now work) index ⌝ }
     ensures { λ r. ⌜ Walked d (now (site .entry)) (bytesAt (now (s .entry)) url) (entriesIn (listNamed (itemsFrom 13 (now (s .entry)) lists) (treeAt 11 (now (s .entry)) n))) t (now (work .entry)) r (now (work .exit)) ⌝ }
 {
-    let Found::At(list) = list_of(s, lists, n) else {
+    let Found::At(list) = list_of(s, lists, n, work, index) else {
         return t;
     };
     if !has_type(s, list, b"ipv4-acl-type") {
@@ -168,18 +171,19 @@ fn read_policy(
     site: &[u8],
     work: &mut [u64],
     lists: Found,
+    index: Index,
     at: usize,
     d: Direction,
     url: usize,
     before: Tally,
 ) -> Tally
-    requires { ⌜ length (lines (now site) 0) ≤ 64 ⌝ }
+    requires { ⌜ (length (lines (now site) 0) ≤ 64) × Indexed (now s) (itemsFrom 13 (now s) lists) (now work) index ⌝ }
     ensures { λ r. ⌜ Walked d (now (site .entry)) (bytesAt (now (s .entry)) url) (entriesNamed (itemsFrom 13 (now (s .entry)) lists) (elementsFrom 11 (now (s .entry)) at)) before (now (work .entry)) r (now (work .exit)) ⌝ }
 {
     let mut t = before;
     let mut j = at;
     loop {
-        t = read_named(s, site, work, lists, skip(s, j), d, url, t);
+        t = read_named(s, site, work, lists, index, skip(s, j), d, url, t);
         match next_element(s, j, 11) {
             Next::Done(_) => {
                 return t;
@@ -199,23 +203,24 @@ fn read_direction(
     s: &[u8],
     site: &[u8],
     work: &mut [u64],
+    index: Index,
     mud: usize,
     d: Direction,
     url: usize,
     t: Tally,
 ) -> Tally
-    requires { ⌜ length (lines (now site) 0) ≤ 64 ⌝ }
+    requires { ⌜ (length (lines (now site) 0) ≤ 64) × Indexed (now s) (listsOf (treeOf 16 (now s))) (now work) index ⌝ }
     ensures { λ r. ⌜ Walked d (now (site .entry)) (bytesAt (now (s .entry)) url) (entriesNamed (listsOf (treeOf 16 (now (s .entry)))) (policyLists d (treeAt 15 (now (s .entry)) mud))) t (now (work .entry)) r (now (work .exit)) ⌝ }
 {
     match policy_lists(s, mud, d) {
         Found::Missing => t,
-        Found::At(at) => read_policy(s, site, work, lists_of(s, skip(s, 0)), at, d, url, t),
+        Found::At(at) => read_policy(s, site, work, lists_of(s, skip(s, 0)), index, at, d, url, t),
     }
 }
 
 // Both directions, by the place of the header; the file's own URL stands in it.
-fn read_both(s: &[u8], site: &[u8], work: &mut [u64], mud: usize) -> Tally
-    requires { ⌜ length (lines (now site) 0) ≤ 64 ⌝ }
+fn read_both(s: &[u8], site: &[u8], work: &mut [u64], index: Index, mud: usize) -> Tally
+    requires { ⌜ (length (lines (now site) 0) ≤ 64) × Indexed (now s) (listsOf (treeOf 16 (now s))) (now work) index ⌝ }
     ensures { λ r. ⌜ BothWalked (now (site .entry)) (treeOf 16 (now (s .entry))) (treeAt 15 (now (s .entry)) mud) (now (work .entry)) r (now (work .exit)) ⌝ }
 {
     let url = string_place(s, member(s, mud, 15, b"mud-url"));
@@ -224,12 +229,12 @@ fn read_both(s: &[u8], site: &[u8], work: &mut [u64], mud: usize) -> Tally
         sound: true,
         count: 0,
     };
-    let t = read_direction(s, site, work, mud, Direction::FromDevice, url, none);
-    read_direction(s, site, work, mud, Direction::ToDevice, url, t)
+    let t = read_direction(s, site, work, index, mud, Direction::FromDevice, url, none);
+    read_direction(s, site, work, index, mud, Direction::ToDevice, url, t)
 }
 
-fn read_entries(s: &[u8], site: &[u8], work: &mut [u64]) -> Tally
-    requires { ⌜ length (lines (now site) 0) ≤ 64 ⌝ }
+fn read_entries(s: &[u8], site: &[u8], work: &mut [u64], index: Index) -> Tally
+    requires { ⌜ (length (lines (now site) 0) ≤ 64) × Indexed (now s) (listsOf (treeOf 16 (now s))) (now work) index ⌝ }
     ensures { λ r. ⌜ EntriesRead (now (site .entry)) (treeOf 16 (now (s .entry))) (now (work .entry)) r (now (work .exit)) ⌝ }
 {
     match in_file(s, b"ietf-mud:mud") {
@@ -238,7 +243,7 @@ fn read_entries(s: &[u8], site: &[u8], work: &mut [u64]) -> Tally
             sound: true,
             count: 0,
         },
-        Found::At(mud) => read_both(s, site, work, mud),
+        Found::At(mud) => read_both(s, site, work, index, mud),
     }
 }
 
@@ -255,12 +260,12 @@ fn put_defaults(site: &[u8], work: &mut [u64], n: usize)
 }
 
 // The networks of the site, the rules of all entries (if there are at most 64), and the defaults, in the form that `builder` reads.
-pub fn read(s: &[u8], site: &[u8], work: &mut [u64]) -> Tally
-    requires { ⌜ (length (lines (now site) 0) ≤ 64) × (64 ≤ length (now work)) ⌝ }
+pub fn read(s: &[u8], site: &[u8], work: &mut [u64], index: Index) -> Tally
+    requires { ⌜ (length (lines (now site) 0) ≤ 64) × (64 ≤ length (now work)) × Indexed (now s) (listsOf (treeOf 16 (now s))) (now work) index ⌝ }
     ensures { λ r. ⌜ ReadIn (now (site .entry)) (treeOf 16 (now (s .entry))) (now (work .entry)) r (now (work .exit)) ⌝ }
 {
     naming::networks::load(site, work);
-    let t = read_entries(s, site, work);
+    let t = read_entries(s, site, work, index);
     put_defaults(site, work, t.count);
     t
 }

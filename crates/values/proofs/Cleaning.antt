@@ -195,14 +195,14 @@ module _ (d : ℕ) (s : List ℕ) (at : ℕ) {r : Read} (e : r ≡ tokenAt 125 s
       }
 
 -- one member
-module _ (d : ℕ) (s : List ℕ) (j v : ℕ) (a : List ℕ) (lo hi : ℕ) (l : lo ≤ hi) (m : hi ≤ length a) (x : ℕ) (b : List ℕ) (r : Entry) (en : Entered s x a lo hi b r) where
+module _ (d : ℕ) (s : List ℕ) (j v : ℕ) (a : List ℕ) (lo hi : ℕ) (l : lo ≤ hi) (m : hi ≤ length a) (x : ℕ) (b : List ℕ) (r : Entry) (en : Entered s x j a lo hi b r) where
   module _ {top : ℕ} (gr : top ≡ grownOf hi r) {i : ℕ} (sk : i ≡ spanAt isSpace s v) {t : Checked} (ch : t ≡ checkedOf (valueAt d s i) (clean (treeAt d s i))) (c : List ℕ) (bl : Below top b c) where
     pub joined-halt : {k : ℕ} → t ≡ Refused k → Joined d s j v a lo hi c (Halt k)
     unfolding Joined
     joined-halt {k} u =
-        let o = entered-room s x a b lo hi r en m .0 in
+        let o = entered-room s x j a b lo hi r en m .0 in
         let y : valueAt d s i ≡ Bad k = checked-bad _ _ (sym u ∙ ch) in
-        (rw (← sk) y, below-then (omega arith) (entered-below s x a b lo hi r en) bl)
+        (rw (← sk) y, below-then (omega arith) (entered-below s x j a b lo hi r en) bl)
 
     pub joined-past : {e : ℕ} {z : Bool} → t ≡ Value e z → nameAt s j ≡ bytesAt s x → {f : Bool} → f ≡ fineOf (allBytes (nameAt s j)) (absent (nameAt s j) (membersAfter d s j)) r → {w : Bool} → w ≡ (f && z) → Joined d s j v a lo hi c (Past e top w)
     unfolding Joined
@@ -234,8 +234,8 @@ module _ (d : ℕ) (s : List ℕ) (at : ℕ) (a₀ a : List ℕ) (lo j hi : ℕ)
       past-room : (hi ≤ top) × (top ≤ length (past .within))
       past-room =
           let e = past in
-          let o = entered-room s (e .name) a (e .within) lo hi (e .entry) (e .entered) (h .room) in
-          let n = entered-below s (e .name) a (e .within) lo hi (e .entry) (e .entered) .long in
+          let o = entered-room s (e .name) j a (e .within) lo hi (e .entry) (e .entered) (h .room) in
+          let n = entered-below s (e .name) j a (e .within) lo hi (e .entry) (e .entered) .long in
           let g = e .grown in
           omega arith
 
@@ -244,7 +244,7 @@ module _ (d : ℕ) (s : List ℕ) (at : ℕ) (a₀ a : List ℕ) (lo j hi : ℕ)
           let e = past in
           let o = past-room in
           let n = h .from in
-          below-then (omega arith) (below-then (omega arith) (h .below) (entered-below s (e .name) a (e .within) lo hi (e .entry) (e .entered))) (e .kept)
+          below-then (omega arith) (below-then (omega arith) (h .below) (entered-below s (e .name) j a (e .within) lo hi (e .entry) (e .entered))) (e .kept)
 
     module _ {y : Read} (p : y ≡ keyAt s j) (q : y ≡ End v) where
       pub membering-bad : {k : ℕ} → r ≡ Halt k → Refused k ≡ objectChecked d s at
@@ -268,7 +268,7 @@ module _ (d : ℕ) (s : List ℕ) (at : ℕ) (a₀ a : List ℕ) (lo j hi : ℕ)
               (subst (λ (k : ℕ). Keeps (cleanMembers (membersIn d s at)) g s (e .within) lo k (membersAfter d s j)) (sym (e .grown))
               (keeps-on s (e .name) a (e .within) lo hi (treeAt d s (spanAt isSpace s v)) (membersAfter d s j)
               (subst (λ (ms : Members). Keeps (cleanMembers (membersIn d s at)) good s a lo hi ms) (members-turn d s j ∙ rw (e .stands, ← (place-end s j p q refl))) (h .keeps))
-              (e .entry) (e .entered) g (gd ∙ ap (λ (k : Bool). good && k) (e .fine ∙ ap (λ (k : List ℕ). fineOf (allBytes k) (absent k (membersAfter d s j)) (e .entry) && clean (treeAt d s (spanAt isSpace s v))) (e .stands)))))
+              j (e .entry) (e .entered) g (gd ∙ ap (λ (k : Bool). good && k) (e .fine ∙ ap (λ (k : List ℕ). fineOf (allBytes k) (absent k (membersAfter d s j)) (e .entry) && clean (treeAt d s (spanAt isSpace s v))) (e .stands)))))
 
           pub membering-done : {k : ℕ} → n ≡ Done k → Value k g ≡ objectChecked d s at
           membering-done l =
@@ -286,7 +286,7 @@ module _ (d : ℕ) (s : List ℕ) (at : ℕ) (a₀ a : List ℕ) (lo j hi : ℕ)
                 below = membering-past u;
                 from = omega arith;
                 room = omega arith;
-                rising = rising-below s (e .within) b lo top (e .kept) (subst (λ (k : ℕ). Rising s (e .within) lo k) (sym (e .grown)) (rising-on s (e .name) a (e .within) lo hi (e .entry) (e .entered) (h .rising)));
+                rising = rising-below s (e .within) b lo top (e .kept) (subst (λ (k : ℕ). Rising s (e .within) lo k) (sym (e .grown)) (rising-on s (e .name) j a (e .within) lo hi (e .entry) (e .entered) (h .rising)));
               }
 
 -- a value

@@ -140,7 +140,7 @@ fn check_member(
     requires { ⌜ (lo ≤ hi) × (hi ≤ length (now area)) × Rising (now s) (now area) lo hi ⌝ }
     ensures { λ r. ⌜ Joined depth (now (s .entry)) at v (now (area .entry)) lo hi (now (area .exit)) r ⌝ }
 {
-    let r = enter(s, name_place(s, at), area, lo, hi);
+    let r = enter(s, name_place(s, at), at, area, lo, hi);
     let name = fine(s, at, depth, r);
     let top = grown(hi, r);
     match check_value(s, skip(s, v), depth, area, top) {

@@ -41,9 +41,9 @@ pub enum Order {
     More,
 }
 
-// Where a name stands among others that rise: it is there, or would stand at a place.
+// Where a name stands among others that rise, or would stand.
 pub enum Spot {
-    Taken,
+    Taken(usize),
     Free(usize),
 }
 

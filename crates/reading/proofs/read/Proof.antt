@@ -1,4 +1,4 @@
-use Rattle.reading.proofs.Whole.{reads}
+use Rattle.reading.proofs.Finding.{found}
 use Rattle.reading.proofs.read.Statement.{statement}
 use Rattle.reading.proofs.read.Tie as tie
 
@@ -6,8 +6,8 @@ pub read-spec : {M : Type 1} → statement M
 read-spec =
     tie.close
     (tie.spec
-    (λ c κs. search reads)
-    (λ c κs. search reads)
-    (λ c κs. search reads)
-    (λ c. search reads)
-    (λ c. search reads))
+    (λ c κs. search found)
+    (λ c κs. search found)
+    (λ c κs. search found)
+    (λ c. search found)
+    (λ c. search found))

@@ -1,6 +1,6 @@
+use borrow.Author.Needs.{needs}
 use Rattle.gateway.proofs.Stages.{judging}
 use Rattle.gateway.specs.Answer.{byRules}
-use borrow.Author.Needs.{needs}
 use Rattle.gateway.proofs.judging.by_rules.Statement.{statement}
 use Rattle.gateway.proofs.judging.by_rules.Tie as tie
 
@@ -22,6 +22,7 @@ by-rules-spec =
     (tie.spec
     (λ c κs. search needs)
     returns
+    (λ c κs. search needs)
     (λ c κs. search needs)
     (λ c. search needs)
     returns-2

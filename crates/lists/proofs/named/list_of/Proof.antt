@@ -1,4 +1,4 @@
-use Rattle.lists.proofs.Laws.{listing}
+use Rattle.lists.proofs.Gathering.{looking}
 use Rattle.lists.proofs.named.list_of.Statement.{statement}
 use Rattle.lists.proofs.named.list_of.Tie as tie
 
@@ -6,9 +6,10 @@ pub list-of-spec : {M : Type 1} → statement M
 list-of-spec =
     tie.close
     (tie.spec
-    (λ c. search listing)
-    (λ c. search listing)
-    (λ c κs. search listing)
-    (λ c κs. search listing)
-    (λ c. search listing)
-    (λ c. search listing))
+    (λ c. search looking)
+    (λ c κs. search looking)
+    (λ c κs. search looking)
+    (λ c. search looking)
+    (λ c κs. search looking)
+    (λ c. search looking)
+    (λ c. search looking))
