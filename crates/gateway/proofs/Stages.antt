@@ -207,3 +207,9 @@ module _ {file site : List ℕ} {reply work : ℕ} {r : Answer} {bytes : List �
   ends-refused e b w =
       let q : answerOf file site reply work ≡ Refused _ = sym (h .answer) ∙ e in
       record { answer = sym q; bytes = b ∙ rw q; words = w }
+
+-- zeros in a buffer as long as it was lent
+pub cleared : {m : List ℕ} {k n : ℕ} → m ≡ replicate k 0 → k ≡ n → m ≡ replicate n 0
+cleared e q = e ∙ ap (λ k. replicate k 0) q
+
+pub ruleset ending = (needs, cleared, ends-taken, ends-refused)
