@@ -154,15 +154,11 @@ unfolding firstOr trailingZeros
 first-not zero ok m z h = refl
 first-not (suc n) ok m z h = sym (not-digit n ok m (m % 2) (trailingZeros n (m / 2)) z (λ l. sym (first-not n (ok / 2) (m / 2) z l)) h)
 
--- ---- two live sets with the same table
-pub alike-leaf : (k n a b c d ya yb : ℕ) (R s : List ℕ) (x y : Bool) → k ≡ 0 → Ready n ya yb R s → x ≡ firstOr 64 ya a (firstOr 64 yb b false) → y ≡ firstOr 64 ya c (firstOr 64 yb d false) → x ≡ y
-    → tableLeft k n R a b ≡ tableLeft k n R c d
-alike-leaf k n a b c d ya yb R s x y z r e f g =
-    let q : firstOr 64 ya a (firstOr 64 yb b false) ≡ firstOr 64 ya c (firstOr 64 yb d false) = sym e ∙ g ∙ f in
-    subst (λ (j : ℕ). tableLeft j n R a b ≡ tableLeft j n R c d) (sym z)
-    (leaf-left n a b ya yb R s r ∙ ap (λ (t : Bool). cond t ([] ∷ []) []) q ∙ sym (leaf-left n c d ya yb R s r))
+-- one of the first 64 rules is live, or none
+pub of-first : (ya a yb b : ℕ) (r : Bool) → trailingZeros 64 a < 64 → r ≡ firstOr 64 ya a false → r ≡ firstOr 64 ya a (firstOr 64 yb b false)
+of-first ya a yb b r h e = e ∙ sym (first-is 64 ya a false h) ∙ first-is 64 ya a (firstOr 64 yb b false) h
 
-pub both-firsts : (ya a yb b : ℕ) (r z : Bool) → z ≡ firstOr 64 yb b false → r ≡ firstOr 64 ya a z → r ≡ firstOr 64 ya a (firstOr 64 yb b false)
-both-firsts ya a yb b r z e f = f ∙ ap (λ (x : Bool). firstOr 64 ya a x) e
+pub of-others : (ya a yb b : ℕ) (r : Bool) → 64 ≤ trailingZeros 64 a → r ≡ firstOr 64 yb b false → r ≡ firstOr 64 ya a (firstOr 64 yb b false)
+of-others ya a yb b r h e = e ∙ first-not 64 ya a (firstOr 64 yb b false) h
 
-pub ruleset firsts = (needs, first-is, first-not, both-firsts)
+pub ruleset firsts = (needs, first-is, first-not, of-first, of-others)

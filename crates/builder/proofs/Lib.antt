@@ -5,7 +5,9 @@ pub mod Starts
 pub mod Sorting
 pub mod Cutting
 pub mod Laid
+pub mod Pending
 pub mod Turns
 pub mod Levels
+pub mod Ports
 pub mod Entry
 pub mod Reading

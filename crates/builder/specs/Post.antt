@@ -4,11 +4,13 @@ use mathlib.Core.Path.{_≡_}
 use mathlib.Core.Bool.{Bool, true, false, cond, _&&_}
 use mathlib.Core.List.{List, [], _∷_, _++_}
 use lib.Dec.{eqb}
-use lib.ListN.{length, take, drop, set}
-use Rattle.flows.specs.Table.{Table}
+use lib.ListN.{length, take, drop, getD, set}
+use lib.Bits.{bitAnd}
+use Rattle.flows.specs.Table.{Table, _to_, putBefore}
 use Rattle.builder.specs.declared.Built.{Built}
+use Rattle.builder.specs.declared.live.Run.{Run}
 use Rattle.builder.specs.Promise.{answerOf}
-use Rattle.builder.specs.Encoding.{putInto, tableWords}
+use Rattle.builder.specs.Encoding.{lowOf, highOf, putInto, tableWords}
 use Rattle.builder.specs.Cells.{maskOf, startsOf, cellsAt, Cut}
 
 -- The table t, with its dimensions from d on, is built from line `at` on, and what stands before is kept: w before, w' after
@@ -34,6 +36,34 @@ part a e w = take (3 * e - 3 * a) (drop (3 * a) w)
 pub record ClosedTo (a e z c x : ℕ) (w w' : List ℕ) (r : Bool) : Type 0 where
   pub same : r ≡ sameWords (part a e w) (part e z w)
   pub left : w' ≡ cond r w (stampN c x (e - a) a w)
+
+-- What is read of the cell at place x
+pub record CellRead (a b x : ℕ) (w : List ℕ) (r : Run) : Type 0 where
+  pub low : r .low ≡ lowOf (getD w x 0)
+  pub high : r .high ≡ highOf (getD w x 0)
+  pub first : r .a ≡ bitAnd a (getD w (x + 1) 0)
+  pub second : r .b ≡ bitAnd b (getD w (x + 2) 0)
+  pub third : r .c ≡ bitAnd a (getD w (x + 1) 0)
+  pub fourth : r .d ≡ bitAnd b (getD w (x + 2) 0)
+
+-- The live sets of a run have the table s; f gives the table of two live sets
+abbrev pub Have : (ℕ → ℕ → Table) → Table → Run → Type 0
+Have f s run = (f (run .a) (run .b) ≡ s) × (f (run .c) (run .d) ≡ s)
+
+-- So has the cell, since its live sets are among them
+abbrev pub Known : Run → Run → Type 0
+Known run cell = (f : ℕ → ℕ → Table) (s : Table) → Have f s run → f (cell .a) (cell .b) ≡ s
+
+-- A run with one more cell
+pub record Longer (run cell r : Run) : Type 0 where
+  pub low : r .low ≡ run .low
+  pub high : r .high ≡ cell .high
+  pub have : (f : ℕ → ℕ → Table) (s : Table) → Have f s run → f (cell .a) (cell .b) ≡ s → Have f s r
+
+-- A run of the last dimension is put down as line `at`, if it is accepted, and what stands before is kept; the next line is r
+pub record RunPut (at lo hi : ℕ) (ok : Bool) (w w' : List ℕ) (r : ℕ) : Type 0 where
+  pub count : r ≡ at + cond ok 1 0
+  pub held : take (3 * r) w' ≡ take (3 * at) w ++ tableWords 5 (putBefore (lo to hi) (cond ok ([] ∷ []) []))
 
 -- The starts of cells, which stand where the lines will
 abbrev pub starts : ℕ → List ℕ → List ℕ

@@ -1,12 +1,12 @@
 // Reading networks and rules. A rule's place is that of its first word.
 ghost use mathlib.Core.Path.{_≡_};
-ghost use mathlib.Core.Bool.{Bool, true, false};
-ghost use mathlib.Core.List.{List, [], _∷_, _++_};
-ghost use Prim.Native.Nat.{ℕ, _+_, _-_, _*_, _<_, _≤_};
+ghost use mathlib.Core.Bool.{true, false};
+ghost use mathlib.Core.List.{[], _∷_};
+ghost use Prim.Native.Nat.{_+_, _*_, _<_, _≤_};
 ghost use lib.ListN.{length, take, drop, getD};
 ghost use Rattle.flows.specs.Table.{inRange};
 ghost use Rattle.flows.specs.Rules.{inAll};
-ghost use Rattle.builder.specs.Encoding.{lowOf, highOf, limitsOf, atMostSeven, accepting, ruled};
+ghost use Rattle.builder.specs.Encoding.{lowOf, highOf, limitsOf, atMostSeven, ruled};
 ghost use Rattle.builder.specs.Cells.{nearOf, meetsAll};
 
 // The ends of a range, and whether it holds a value.

@@ -6,10 +6,8 @@
 //  7071      the lines of the table, three words each
 // Caller: write networks and rules, call `build`, read the lines by `table::range`, clear the buffer.
 ghost use mathlib.Core.Path.{_≡_};
-ghost use mathlib.Core.Bool.{Bool, true, false};
-ghost use mathlib.Core.List.{List, [], _∷_, _++_};
-ghost use Prim.Native.Nat.{ℕ, _+_, _-_, _*_, _<_, _≤_};
-ghost use lib.ListN.{length, take, drop, getD};
+ghost use Prim.Native.Nat.{_+_, _-_, _*_, _≤_};
+ghost use lib.ListN.{length, drop};
 ghost use Rattle.flows.specs.Table.{tableOf};
 ghost use Rattle.flows.specs.Flow.{widths};
 ghost use Rattle.flows.specs.Rules.{letThrough};
@@ -19,6 +17,7 @@ ghost use Rattle.builder.specs.Promise.{BuiltIn};
 mod cells;
 mod drops;
 mod encoding;
+mod last;
 mod lines;
 mod live;
 mod sections;

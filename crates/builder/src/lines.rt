@@ -1,9 +1,9 @@
 // Lines of three words: put a range into them, compare groups of them.
 ghost use mathlib.Core.Path.{_≡_};
-ghost use mathlib.Core.Bool.{Bool, true, false};
-ghost use mathlib.Core.List.{List, [], _∷_, _++_};
-ghost use Prim.Native.Nat.{ℕ, _+_, _-_, _*_, _<_, _≤_};
-ghost use lib.ListN.{length, take, drop, getD, set};
+ghost use mathlib.Core.Bool.{true, false};
+ghost use mathlib.Core.List.{[], _∷_, _++_};
+ghost use Prim.Native.Nat.{_+_, _-_, _*_, _<_, _≤_};
+ghost use lib.ListN.{length, take, drop};
 ghost use Rattle.builder.specs.Encoding.{columnOf, wordOf};
 ghost use Rattle.builder.specs.Cells.{topOf};
 ghost use Rattle.builder.specs.Post.{sameWords, stampN, ClosedTo};

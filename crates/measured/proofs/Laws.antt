@@ -14,11 +14,24 @@ use Rattle.flows.specs.Flow.{widths}
 use Rattle.builder.specs.declared.Built.{Built}
 use Rattle.builder.specs.declared.Built.the-variants.{Lines, Over}
 use Rattle.builder.specs.Promise.{BuiltIn}
+use Rattle.json.specs.declared.Read.{Read}
+use Rattle.json.specs.declared.Read.the-variants.{End, Bad}
+use Rattle.json.specs.Reading.{textOf}
+use Rattle.json.specs.Judged.{Answer}
 use Rattle.stored.specs.Text.{replyOf}
 use Rattle.stored.specs.Words.{Fits}
 use Rattle.reply.specs.Lines.{linesIn}
 use Rattle.reply.proofs.Built.{built-lines, built-fits}
-use Rattle.measured.specs.Measured.{sized, allSized, capped, linesNumber, writtenOver, Written, Replied}
+use Rattle.measured.specs.Measured.{textNumber, sized, allSized, capped, linesNumber, writtenOver, Written, Replied}
+
+-- ## texts
+pub text-taken : (s : List ℕ) {r : Read} {e : ℕ} → Answer 16 s r → r ≡ End e → 1 ≡ textNumber (textOf 16 s)
+unfolding textNumber
+text-taken s a q = sym (ap textNumber (sym (a .computed) ∙ q))
+
+pub text-refused : (s : List ℕ) {r : Read} {k : ℕ} → Answer 16 s r → r ≡ Bad k → 0 ≡ textNumber (textOf 16 s)
+unfolding textNumber
+text-refused s a q = sym (ap textNumber (sym (a .computed) ∙ q))
 
 -- ## sizes
 pub first-size : (work n : ℕ) → work ≡ 16290 → leb n 66 ≡ sized work n
@@ -122,4 +135,4 @@ module _ (work n : ℕ) (t : Table) (reply : List ℕ) {b : Bool} (e : b ≡ all
   pub replied : not b ≡ false → {r : ℕ} {reply′ : List ℕ} → Written t reply r reply′ → Replied work n t reply r reply′
   replied h w = record { number = rw (← e, not-false b h) (w .number); bytes = rw (← e, not-false b h) (w .bytes) }
 
-pub ruleset measuring = (needs, first-size, no-size, work-fits, rules-fit, unsized-number, lines-number, over-number, right-reply, wrong-reply)
+pub ruleset measuring = (needs, first-size, no-size, work-fits, rules-fit, unsized-number, lines-number, over-number, right-reply, wrong-reply, text-taken, text-refused)

@@ -6,7 +6,14 @@ use mathlib.Core.List.{List}
 use lib.Dec.{eqb, leb}
 use lib.ListN.{length}
 use Rattle.flows.specs.Table.{Table}
+use Rattle.json.specs.declared.Read.{Read}
+use Rattle.json.specs.declared.Read.the-variants.{End, Bad}
 use Rattle.stored.specs.Text.{replyOf}
+
+-- 1 for a text that was read to its end
+unfoldable pub textNumber : Read → ℕ
+textNumber (End e) = 1
+textNumber (Bad k) = 0
 
 -- a work buffer of its fixed size, and no more rules than it has room for
 unfoldable pub sized : ℕ → ℕ → Bool

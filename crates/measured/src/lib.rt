@@ -1,4 +1,4 @@
-// Building lines from rules, and writing them, each behind a C function of its own: for measuring, and no part of the library.
+// Reading a JSON text, building lines from rules and writing them, each behind a C function of its own: for measuring, and no part of the library.
 ghost use mathlib.Core.Path.{_≡_};
 ghost use Prim.Native.Nat.{_≤_};
 ghost use lib.ListN.{length};
@@ -6,8 +6,22 @@ ghost use Rattle.flows.specs.Table.{tableOf};
 ghost use Rattle.flows.specs.Flow.{widths};
 ghost use Rattle.flows.specs.Rules.{letThrough};
 ghost use Rattle.builder.specs.Encoding.{rulesOf};
-ghost use Rattle.measured.specs.Measured.{sized, allSized, linesNumber, Written, Replied};
+ghost use Rattle.json.specs.Reading.{textOf};
+ghost use Rattle.measured.specs.Measured.{textNumber, sized, allSized, linesNumber, Written, Replied};
 use builder::Built;
+use json::Read;
+use json::reader::whole_text;
+
+// 1 for a JSON text that is nested at most 16 deep, else 0.
+#[no_mangle]
+pub extern "C" fn measured_text(text: &[u8]) -> usize
+    ensures { λ r. ⌜ r ≡ textNumber (textOf 16 (now (text .entry))) ⌝ }
+{
+    match whole_text(text, 16) {
+        Read::End(_) => 1,
+        Read::Bad(_) => 0,
+    }
+}
 
 fn is_sized(work: usize, n: usize) -> bool
     ensures { λ r. ⌜ r ≡ sized work n ⌝ }

@@ -252,7 +252,17 @@ impl Given {
 
 /// Usual rules, and the worst found that a file within the limits can give: at most 64 of them.
 fn sets() -> Vec<Set> {
-    vec![usual(), rule_per_network(), full(), nested(), dropped(), apart(), apart_dropped()]
+    vec![
+        usual(),
+        rule_per_network(),
+        full(),
+        nested(),
+        dropped(),
+        apart(),
+        apart_dropped(),
+        by_turns(),
+        growing(),
+    ]
 }
 
 /// An address whose bits alternate, so that each of the networks around it has addresses on both sides
@@ -355,4 +365,36 @@ fn apart_dropped() -> Set {
     let accepting = [Given { names: vec![u64::MAX], ..TCP }, Given { opener: Some(0), ..TCP }, TCP];
     let rules = dropping.chain(accepting).collect();
     Set { name: "64 addresses apart, 30 device ports dropped", networks: addresses_apart(), rules, lines: 31 }
+}
+
+/// Addresses that touch, of three names by turns, so that no two neighbours have the same live rules.
+fn by_turns() -> Set {
+    let networks = (0..64).map(|n| Net(0x0A00_0000 + n, 32)).collect();
+    let every_third = |first: u32| (first..64).step_by(3).fold(0, |mask, n| mask | 1 << n);
+    let rules = (0..64)
+        .map(|n| Given {
+            names: if n < 3 { vec![every_third(n)] } else { Vec::new() },
+            opener: (n == 3).then_some(0),
+            ..without_ports(n)
+        })
+        .collect();
+    Set { name: "64 addresses of three names by turns, ports left out", networks, rules, lines: 1 }
+}
+
+/// Ports within ever wider ports, and one line for each of 64 addresses apart and for what lies between
+/// them: two sections by turns, which are not the same.
+fn growing() -> Set {
+    let rules = (0..64)
+        .map(|n| {
+            let ports = GivenPorts::Between(1000 - 2 * n, 1000 + 2 * n);
+            Given {
+                names: if n == 63 { vec![u64::MAX] } else { Vec::new() },
+                opener: (n == 1).then_some(0),
+                remote: ports,
+                device: ports,
+                ..TCP
+            }
+        })
+        .collect();
+    Set { name: "64 addresses apart, ports within ports", networks: addresses_apart(), rules, lines: 129 }
 }

@@ -7,5 +7,6 @@ accepts-spec =
     tie.close
     (tie.spec
     (λ c κs. search firsts)
+    (λ c. search firsts)
     (λ c κs. search firsts)
     (λ c. search firsts))
