@@ -6,8 +6,9 @@ use mathlib.Core.Path.{_≡_, refl, sym, ap, ap₂, _∙_, subst}
 use mathlib.Core.Bool.{Bool, true, false, cond}
 use mathlib.Core.List.{List, [], _∷_, _++_, append-nil}
 use lib.ListN.{length, take, drop, getD, length-append, length-take}
-use lib.Seq.{take-take, getD-take, length-take-le}
+use lib.Seq.{take-take, take-at, getD-take, length-take-le}
 use lib.Bits.{bitAnd}
+use borrow.Author.Needs.{needs}
 use Rattle.flows.specs.Table.{_to_, Table, Set, section, runsFrom, putBefore, linesOf, tableOf}
 use Rattle.flows.specs.Table as flows
 use Rattle.flows.specs.Rules.{accepts}
@@ -16,10 +17,10 @@ use Rattle.flows.proofs.Runs.{Step, skip, join, fresh, step}
 use Rattle.builder.specs.declared.Built.{Built}
 use Rattle.builder.specs.declared.live.Run.{Run}
 use Rattle.builder.specs.declared.Built.the-variants.{Lines, Over}
-use Rattle.builder.specs.Encoding.{lowOf, highOf, columnOf, wordOf, tableWords}
-use Rattle.builder.specs.Cells.{topOf, widthsLeft, maskOf, chosen, tableLeft, cellsAt, Cell, Chain, Ready}
+use Rattle.builder.specs.Encoding.{lowOf, highOf, columnOf, wordOf, tableWords, lineWords}
+use Rattle.builder.specs.Cells.{topOf, widthsLeft, maskOf, chosen, tableLeft, firstOr, cellsAt, Cell, Chain, Ready}
 use Rattle.builder.specs.Post.{BuiltTo, CellRead, Have, Known, Longer, sameWords, stampN, part, ClosedTo}
-use Rattle.builder.proofs.Chosen.{section-left, none-left}
+use Rattle.builder.proofs.Chosen.{section-left, none-left, leaf-left}
 use Rattle.builder.proofs.Laid.{Fits, table-length}
 use Rattle.builder.proofs.Cutting.{cells-between, chain-same}
 use Rattle.builder.proofs.Turns.{State, lines-of, over-of, is-over, before-kept, start, state-front, pass, keep, told-same, over-sec, over-new, new, finish}
@@ -107,6 +108,9 @@ ready-same n ya yb at R w w' h e r = record {
   others = r .others;
 }
 
+pub ready-now : {n ya yb : ℕ} (at : ℕ) (w w' : List ℕ) → 2357 ≤ at → take (3 * at) w' ≡ take (3 * at) w → Ready n ya yb (take 1555 w) w → Ready n ya yb (take 1555 w') w'
+ready-now {n} {ya} {yb} at w w' h e r = subst (λ (Q : List ℕ). Ready n ya yb Q w') (sym (same-rules at w w' h e)) (ready-same n ya yb at (take 1555 w) w w' h e r)
+
 -- ---- a chain's first cell and the rest of it
 pub record Link (n d : ℕ) (R s : List ℕ) (z v p : ℕ) : Type 0 where
   pub count : ℕ
@@ -154,6 +158,9 @@ module _ (n at left a b ya yb : ℕ) (w₀ work : List ℕ) (x : ℕ) (run : Run
 
   turn-front : take (3 * at) work ≡ take (3 * at) w₀
   turn-front = state-front (secOf left n R a b) (suc (topOf (6 - left))) (tableLeft left n R a b) (6 - left) at w₀ at-fits work kept end (run .low) (run .high) (t .pend) (t .state)
+
+  pub turn-ready : Ready n ya yb (take 1555 work) work
+  turn-ready = ready-now at w₀ work (t .base) turn-front (t .ready)
 
   -- the state at another place of the buffer
   turned : (x' : ℕ) (run' : Run) (pend' : Table) (kept' end' c : ℕ) (w' : List ℕ) → Have (tableLeft (left - 1) n R) pend' run'
@@ -253,9 +260,6 @@ module _ (n at left a b ya yb : ℕ) (w₀ work : List ℕ) (x : ℕ) (run : Run
           (pass (secOf left n R a b) (suc (topOf (6 - left))) (tableLeft left n R a b) (6 - left) at w₀ at-fits work kept end (run .low) (run .high) (t .pend) (t .state) (cell .high) sec (up-more .0) (omega (arith, up-more)) next-sec (sym e))
 
       -- it is built behind the pending run
-      pub ready-now : Ready n ya yb (take 1555 work) work
-      ready-now = subst (λ (Q : List ℕ). Ready n ya yb Q work) (sym (same-rules at w₀ work (t .base) turn-front)) (ready-same n ya yb at R w₀ work (t .base) turn-front (t .ready))
-
       module _ (w' : List ℕ) (r : Built) (bt : BuiltTo (tableLeft (left - 1) n (take 1555 work) (cell .a) (cell .b)) end (6 - (left - 1)) work w' r) (same-long : length w' ≡ length work) where
         built : BuiltTo sec end (suc (6 - left)) work w' r
         unfolding sec
@@ -373,13 +377,32 @@ module _ (n at left a b ya yb : ℕ) (we : List ℕ) (some : 0 < left) (most : l
             place = omega (arith, first-inside);
           }
 
--- ---- no accepting rule, and one dimension
+-- ---- no accepting rule, no dimension, and one
 pub none-is : (left n at a b ya yb : ℕ) (w : List ℕ) (ok : Bool) → Ready n ya yb (take 1555 w) w → (ok ≡ true → (bitAnd a ya ≡ 0) × (bitAnd b yb ≡ 0)) → ok ≡ true → BuiltTo (tableLeft left n (take 1555 w) a b) at (6 - left) w w (Lines 0)
 unfolding tableWords
 none-is left n at a b ya yb w ok r g e =
     let q : tableLeft left n (take 1555 w) a b ≡ [] = none-left left n a b ya yb (take 1555 w) w r (g e .0) (g e .1) in
     rw q (record { answer = refl; held = λ o. rw add-zero (sym (append-nil (take (3 * at) w))) })
 
+pub leaf-is : (left n at a b : ℕ) (w w' : List ℕ) (r : Built) → left ≡ 0 → BuiltTo (tableLeft 0 n (take 1555 w) a b) at 6 w w' r → BuiltTo (tableLeft left n (take 1555 w) a b) at (6 - left) w w' r
+leaf-is left n at a b w w' r e g = subst (λ (x : ℕ). BuiltTo (tableLeft x n (take 1555 w) a b) at (6 - x) w w' r) (sym e) g
+
 -- one dimension left
 pub last-is : (left n at a b : ℕ) (w w' : List ℕ) (r : Built) → left ≡ 1 → BuiltTo (tableLeft 1 n (take 1555 w) a b) at 5 w w' r → BuiltTo (tableLeft left n (take 1555 w) a b) at (6 - left) w w' r
 last-is left n at a b w w' r e g = subst (λ (x : ℕ). BuiltTo (tableLeft x n (take 1555 w) a b) at (6 - x) w w' r) (sym e) g
+
+pub leaf-one : (n at a b ya yb : ℕ) (w w' : List ℕ) (ok : Bool) → 3 * at + 3 ≤ length w → Ready n ya yb (take 1555 w) w → ok ≡ firstOr 64 ya a (firstOr 64 yb b false) → ok ≡ true → w' ≡ (take (3 * at) w ++ (0 ∷ (0 ∷ (0 ∷ [])))) ++ drop (3 * at + 3) w
+    → BuiltTo (tableLeft 0 n (take 1555 w) a b) at 6 w w' (Lines 1)
+unfolding tableWords lineWords
+leaf-one n at a b ya yb w w' ok h r e y g =
+    let q : tableLeft 0 n (take 1555 w) a b ≡ [] ∷ [] = leaf-left n a b ya yb (take 1555 w) w r ∙ ap (λ (z : Bool). cond z ([] ∷ []) []) (sym e ∙ y) in
+    let l : length (take (3 * at) w ++ (0 ∷ (0 ∷ (0 ∷ [])))) ≡ 3 * (at + 1) = length-append (take (3 * at) w) (0 ∷ (0 ∷ (0 ∷ []))) ∙ omega (arith, length-take-le (3 * at) w (omega arith)) in
+    rw q (record { answer = refl; held = λ o. ap (λ (x : List ℕ). take (3 * (at + 1)) x) g ∙ take-at (take (3 * at) w ++ (0 ∷ (0 ∷ (0 ∷ [])))) (drop (3 * at + 3) w) (3 * (at + 1)) l })
+
+pub leaf-none : (n at a b ya yb : ℕ) (w : List ℕ) (ok : Bool) → Ready n ya yb (take 1555 w) w → ok ≡ firstOr 64 ya a (firstOr 64 yb b false) → ok ≡ false → BuiltTo (tableLeft 0 n (take 1555 w) a b) at 6 w w (Lines 0)
+unfolding tableWords
+leaf-none n at a b ya yb w ok r e y =
+    let q : tableLeft 0 n (take 1555 w) a b ≡ [] = leaf-left n a b ya yb (take 1555 w) w r ∙ ap (λ (z : Bool). cond z ([] ∷ []) []) (sym e ∙ y) in
+    rw q (record { answer = refl; held = λ o. rw add-zero (sym (append-nil (take (3 * at) w))) })
+
+pub ruleset leaving = (needs, none-is, leaf-is, leaf-one, leaf-none)

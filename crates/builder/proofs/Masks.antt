@@ -1,5 +1,5 @@
 -- Masks by the rules that they have: what narrowing a mask does to the rules, and the rules' table.
-use Prim.Native.Nat.{ℕ, zero, suc, _+_, _-_, _*_, _/_, _%_, _≤_, _<_, min}
+use Prim.Native.Nat.{ℕ, zero, suc, _+_, _*_, _/_, _%_, _≤_, _<_, min}
 use native.Mathlib.Nat.{mod-lt, zero-lt-suc}
 use native.Mathlib.Omega.{arith}
 use mathlib.Core.Path.{_≡_, refl, sym, ap, ap₂, _∙_}
@@ -13,7 +13,7 @@ use lib.Arith.{digits-div, digits-mod}
 use borrow.Author.Needs.{needs}
 use borrow.Author.Tests.{ltb-true, eqb-true, eqb-false, eq-eqb, ne-eqb}
 use Rattle.flows.specs.Table.{Range, _to_, inRange}
-use Rattle.flows.specs.Rules.{rule, inSome, inAll}
+use Rattle.flows.specs.Rules.{inSome, inAll}
 use Rattle.text.proofs.Tests.{by-test}
 use Rattle.builder.specs.Encoding.{lowOf, highOf, rangeOf, rangeIf, namedBy, nameLimits, atMostSeven, limitsOf}
 use Rattle.builder.specs.Cells.{bitOf, nearOf, meetsAll}

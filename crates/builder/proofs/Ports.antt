@@ -2,25 +2,28 @@
 use Prim.Native.Nat.{ℕ, suc, _+_, _-_, _*_, _≤_, _<_}
 use native.Mathlib.Omega.{arith}
 use mathlib.Core.Path.{_≡_, refl, sym, ap, ap₂, _∙_, subst}
-use mathlib.Core.Bool.{Bool, true, false, cond, Bool·beq}
+use mathlib.Core.Bool.{Bool, true, false, cond, not, Bool·beq}
 use mathlib.Core.List.{List, [], _∷_, _++_, append-assoc, append-nil, cons≢nil}
 use lib.ListN.{length, take, drop, getD, length-append}
 use lib.Seq.{take-at, take-take, length-take-le}
 use lib.Bits.{bitAnd}
 use borrow.Author.Needs.{needs}
+use borrow.Author.Tests.{not-true, not-false}
 use Rattle.flows.specs.Table.{_to_, Table, runsFrom, putBefore, linesOf}
 use Rattle.text.proofs.Tests.{by-test, clash}
 use Rattle.flows.proofs.Meaning.{length-put}
-use Rattle.builder.specs.declared.Built.the-variants.{Lines}
-use Rattle.builder.specs.Encoding.{lowOf, highOf, columnOf, wordOf, tableWords, lineWords}
+use Rattle.builder.specs.declared.Built.{Built}
+use Rattle.builder.specs.declared.Built.the-variants.{Lines, Over}
+use Rattle.builder.specs.declared.live.Judged.{Judged}
+use Rattle.builder.specs.Encoding.{lowOf, highOf, columnOf, wordOf, tableWords}
 use Rattle.builder.specs.Cells.{topOf, tableLeft, firstOr, cellsAt, Chain, Ready}
-use Rattle.builder.specs.Post.{BuiltTo, RunPut, stampN}
+use Rattle.builder.specs.Post.{BuiltTo, JudgedRead, RunPut, stampN}
 use Rattle.builder.proofs.Chosen.{leaf-left}
 use Rattle.builder.proofs.Laid.{table-length, table-append, stamp-table}
 use Rattle.builder.proofs.Cutting.{cells-between}
 use Rattle.builder.proofs.Pending.{Pending, pending-first, pending-last, pending-on, pending-new}
-use Rattle.builder.proofs.Turns.{is-lines}
-use Rattle.builder.proofs.Levels.{secOf, left-whole, sec-at, same-at, Link, link-of}
+use Rattle.builder.proofs.Turns.{front, lines-of, over-of, is-lines}
+use Rattle.builder.proofs.Levels.{secOf, left-whole, sec-at, same-at, ready-now, Link, link-of}
 
 -- with no dimension left: one line, or none
 abbrev pub oneLine : Bool → Table
@@ -47,28 +50,43 @@ unfolding cellsAt
 port-place = refl
 
 -- ---- a run put down
-pub run-put : (at lo hi : ℕ) (ok : Bool) (w w' w'' : List ℕ) → ok ≡ true → 3 * at + 3 ≤ length w → w' ≡ (take (3 * at) w ++ (0 ∷ (0 ∷ (0 ∷ [])))) ++ drop (3 * at + 3) w
-    → w'' ≡ stampN (columnOf 5) (wordOf 5 lo hi) (at + 1 - at) at w' → RunPut at lo hi ok w w'' (at + 1)
-unfolding tableWords lineWords
-run-put at lo hi ok w w' w'' y h e f =
-    let l : length (take (3 * at) w) ≡ 3 * at = length-take-le (3 * at) w (omega arith) in
-    let q : w' ≡ take (3 * at) w ++ (tableWords 6 ([] ∷ []) ++ drop (3 * at + 3) w) = e ∙ append-assoc (take (3 * at) w) (0 ∷ (0 ∷ (0 ∷ []))) (drop (3 * at + 3) w) in
-    let one : at + 1 - at ≡ 1 = omega arith in
-    let P = putBefore (lo to hi) ([] ∷ []) in
-    let g : w'' ≡ (take (3 * at) w ++ tableWords 5 P) ++ drop (3 * at + 3) w =
-    f ∙ ap (λ (k : ℕ). stampN (columnOf 5) (wordOf 5 lo hi) k at w') one ∙ ap (λ (z : List ℕ). stampN (columnOf 5) (wordOf 5 lo hi) 1 at z) q
-    ∙ stamp-table 5 lo hi at ([] ∷ []) (take (3 * at) w) (drop (3 * at + 3) w) l ∙ sym (append-assoc (take (3 * at) w) (tableWords 5 P) (drop (3 * at + 3) w)) in
-    let k : length (take (3 * at) w ++ tableWords 5 P) ≡ 3 * (at + 1) = length-append (take (3 * at) w) (tableWords 5 P) ∙ omega (arith, l, table-length 5 P, length-put (lo to hi) ([] ∷ [])) in
-    rw y (record { count = refl; held = ap (λ (z : List ℕ). take (3 * (at + 1)) z) g ∙ take-at (take (3 * at) w ++ tableWords 5 P) (drop (3 * at + 3) w) (3 * (at + 1)) k })
+module _ (n at lo hi ya yb ra rb : ℕ) (ok : Bool) (w w' : List ℕ) (r : Built) (room : 3 * at + 3 ≤ length w) (ready : Ready n ya yb (take 1555 w) w) (verdict : ok ≡ firstOr 64 ya ra (firstOr 64 yb rb false))
+    (accepted : not ok ≡ false) (b : BuiltTo (tableLeft 0 n (take 1555 w) ra rb) at 6 w w' r) where
+  -- with no dimension left there is one line
+  one : tableLeft 0 n (take 1555 w) ra rb ≡ [] ∷ []
+  one = leaf-left n ra rb ya yb (take 1555 w) w ready ∙ ap oneLine (sym verdict ∙ not-false ok accepted)
 
-pub run-dropped : (at lo hi : ℕ) (ok : Bool) (w : List ℕ) → ok ≡ false → RunPut at lo hi ok w w at
+  pub not-over : r ≡ Over → ⊥
+  not-over e = let h = over-of (tableLeft 0 n (take 1555 w) ra rb) r (b .answer) e in omega (arith, h, ap length one)
+
+  pub one-more : (m : ℕ) → r ≡ Lines m → m ≡ 1
+  one-more m e = let h = lines-of (tableLeft 0 n (take 1555 w) ra rb) m r (b .answer) e in omega (arith, h .0, ap length one)
+
+  pub run-put : (m : ℕ) (w'' : List ℕ) → r ≡ Lines m → w'' ≡ stampN (columnOf 5) (wordOf 5 lo hi) (at + m - at) at w' → RunPut at lo hi ok w w'' (at + m)
+  run-put m w'' e f =
+      let t = tableLeft 0 n (take 1555 w) ra rb in
+      let P = putBefore (lo to hi) t in
+      let h = lines-of t m r (b .answer) e in
+      let l : length (take (3 * at) w) ≡ 3 * at = length-take-le (3 * at) w (omega arith) in
+      let tail = drop (3 * (at + length t)) w' in
+      let q : w' ≡ take (3 * at) w ++ (tableWords 6 t ++ tail) = front (3 * (at + length t)) w' (take (3 * at) w ++ tableWords 6 t) (b .held (h .1)) ∙ append-assoc (take (3 * at) w) (tableWords 6 t) tail in
+      let k : at + m - at ≡ length t = omega (arith, h .0) in
+      let g : w'' ≡ (take (3 * at) w ++ tableWords 5 P) ++ tail =
+      f ∙ ap₂ (λ (k : ℕ) (z : List ℕ). stampN (columnOf 5) (wordOf 5 lo hi) k at z) k q
+      ∙ stamp-table 5 lo hi at t (take (3 * at) w) tail l ∙ sym (append-assoc (take (3 * at) w) (tableWords 5 P) tail) in
+      let o : oneLine ok ≡ t = ap oneLine (not-false ok accepted) ∙ sym one in
+      let z : length (take (3 * at) w ++ tableWords 5 P) ≡ 3 * (at + m) = length-append (take (3 * at) w) (tableWords 5 P) ∙ omega (arith, l, table-length 5 P, length-put (lo to hi) t, h .0) in
+      record {
+        count = omega (arith, h .0, one-length ok, ap length o);
+        held = ap (λ (z : List ℕ). take (3 * (at + m)) z) g ∙ take-at (take (3 * at) w ++ tableWords 5 P) tail (3 * (at + m)) z ∙ ap (λ (u : Table). take (3 * at) w ++ tableWords 5 (putBefore (lo to hi) u)) (sym o);
+      }
+
+pub run-dropped : (at lo hi : ℕ) (ok : Bool) (w : List ℕ) → not ok ≡ true → RunPut at lo hi ok w w at
 unfolding tableWords putBefore
-run-dropped at lo hi ok w y = rw y (record { count = omega arith; held = sym (append-nil (take (3 * at) w)) })
-
-pub ruleset putting = (needs, run-put, run-dropped)
+run-dropped at lo hi ok w y = rw (not-true ok y) (record { count = omega arith; held = sym (append-nil (take (3 * at) w)) })
 
 -- ---- the loop over the cells: what is laid down so far
-pub record Scan (n at a b ya yb : ℕ) (we work : List ℕ) (x lo hi : ℕ) (ok : Bool) (end : ℕ) : Type 0 where
+pub record Scan (n at a b ya yb : ℕ) (we work : List ℕ) (x lo hi : ℕ) (ok : Bool) (ra rb end : ℕ) : Type 0 where
   pub ready : Ready n ya yb (take 1555 we) we
   pub done : Table
   pub pending : Pending (secOf 1 n (take 1555 we) a b) 65536 (tableLeft 1 n (take 1555 we) a b) done lo hi (oneLine ok)
@@ -83,13 +101,14 @@ pub record Scan (n at a b ya yb : ℕ) (we work : List ℕ) (x lo hi : ℕ) (ok 
   pub high : hi ≤ topOf 5
   pub long : length work ≡ length we
   pub place : x ≤ 7066
+  pub verdict : ok ≡ firstOr 64 ya ra (firstOr 64 yb rb false)
 
 -- whether the rules of two masks that hold a cell accept it
 abbrev okAt : ℕ → ℕ → ℕ → ℕ → List ℕ → ℕ → Bool
 okAt a b ya yb w x = firstOr 64 ya (bitAnd a (getD w (x + 1) 0)) (firstOr 64 yb (bitAnd b (getD w (x + 2) 0)) false)
 
-pub judged-ok : (ya yb : ℕ) {p q p' q' : ℕ} {r : Bool} → r ≡ firstOr 64 ya p (firstOr 64 yb q false) → p ≡ p' → q ≡ q' → r ≡ firstOr 64 ya p' (firstOr 64 yb q' false)
-judged-ok ya yb e f g = e ∙ ap₂ (λ (p q : ℕ). firstOr 64 ya p (firstOr 64 yb q false)) f g
+judged-ok : {a b ya yb x : ℕ} {w : List ℕ} {r : Judged} → JudgedRead a b ya yb x w r → r .ok ≡ okAt a b ya yb w x
+judged-ok {a} {b} {ya} {yb} {x} {w} {r} j = j .verdict ∙ ap₂ (λ (p q : ℕ). firstOr 64 ya p (firstOr 64 yb q false)) (j .first) (j .second)
 
 -- the section of each value of a cell
 cell-sec : (n a b ya yb : ℕ) (w : List ℕ) (v x y : ℕ) → Ready n ya yb (take 1555 w) w → Link n 5 (take 1555 w) w (cellsAt 6) v x → v ≤ y → y ≤ highOf (getD w x 0) → secOf 1 n (take 1555 w) a b y ≡ oneLine (okAt a b ya yb w x)
@@ -102,10 +121,16 @@ cell-sec n a b ya yb w v x y r c h k =
 pub scan-first : {at x long : ℕ} → 2357 ≤ at → 3 * (at + 512) + 3 ≤ long → x ≡ cellsAt 5 → x + 3 ≤ long
 scan-first base fits e = omega (arith, e, port-place)
 
-pub scan-start : {n at a b ya yb x lo hi : ℕ} {ok : Bool} {w : List ℕ} → 2357 ≤ at → 3 * (at + 512) + 3 ≤ length w → Ready n ya yb (take 1555 w) w → x ≡ cellsAt 5
-    → lo ≡ lowOf (getD w x 0) → hi ≡ highOf (getD w x 0) → ok ≡ okAt a b ya yb w x → Scan n at a b ya yb w w x lo hi ok at
+pub scan-start : {n at a b ya yb x : ℕ} {run : Judged} {w : List ℕ} → 2357 ≤ at → 3 * (at + 512) + 3 ≤ length w → Ready n ya yb (take 1555 w) w → x ≡ cellsAt 5 → JudgedRead a b ya yb x w run
+    → Scan n at a b ya yb w w x (run .low) (run .high) (run .ok) (run .a) (run .b) at
 unfolding tableWords
-scan-start {n} {at} {a} {b} {ya} {yb} {x} {lo} {hi} {ok} {w} base fits r ex el eh eo =
+scan-start {n} {at} {a} {b} {ya} {yb} {x} {run} {w} base fits r ex read =
+    let lo = run .low in
+    let hi = run .high in
+    let ok = run .ok in
+    let el = read .low in
+    let eh = read .high in
+    let eo : ok ≡ okAt a b ya yb w x = judged-ok read in
     let R = take 1555 w in
     let c = r .cells 5 (omega arith) in
     let l : Link n 5 R w (cellsAt 6) 0 x = subst (λ (p : ℕ). Link n 5 R w (cellsAt 6) 0 p) (sym ex) (link-of (c .count) n 5 R w (cellsAt 6) 0 (cellsAt 5) (c .chain)) in
@@ -129,9 +154,10 @@ scan-start {n} {at} {a} {b} {ya} {yb} {x} {lo} {hi} {ok} {w} base fits r ex el e
       high = hm;
       long = refl;
       place = omega (arith, ex, port-place);
+      verdict = read .verdict;
     }
 
-module _ {n at a b ya yb : ℕ} {we work : List ℕ} {x lo hi : ℕ} {ok : Bool} {end : ℕ} (t : Scan n at a b ya yb we work x lo hi ok end) where
+module _ {n at a b ya yb : ℕ} {we work : List ℕ} {x lo hi : ℕ} {ok : Bool} {ra rb end : ℕ} (t : Scan n at a b ya yb we work x lo hi ok ra rb end) where
   pub scan-room : 3 * end + 3 ≤ length work
   scan-room = omega (arith, t .few, t .place, t .fits, t .long)
 
@@ -139,6 +165,9 @@ module _ {n at a b ya yb : ℕ} {we work : List ℕ} {x lo hi : ℕ} {ok : Bool}
   scan-front =
       let l : length (take (3 * at) we) ≡ 3 * at = length-take-le (3 * at) we (omega (arith, t .fits)) in
       sym (take-take (3 * at) (3 * end) work (omega (arith, t .at-end))) ∙ ap (λ (z : List ℕ). take (3 * at) z) (t .held) ∙ take-at (take (3 * at) we) (tableWords 5 (t .done)) (3 * at) l
+
+  pub scan-ready : Ready n ya yb (take 1555 work) work
+  scan-ready = ready-now at we work (t .base) scan-front (t .ready)
 
   -- the pending run is put down
   module _ {w' : List ℕ} {end' : ℕ} (p : RunPut end lo hi ok work w' end') where
@@ -179,67 +208,75 @@ module _ {n at a b ya yb : ℕ} {we work : List ℕ} {x lo hi : ℕ} {ok : Bool}
     same : (q : ℕ) → q < 7069 → getD work q 0 ≡ getD we q 0
     same q h = same-at at we work q (omega (arith, t .base)) scan-front
 
-    module _ {up : ℕ} (eu : up ≡ highOf (getD work (x + 3) 0)) where
+    module _ {cell : Judged} (read : JudgedRead a b ya yb (x + 3) work cell) where
+      up : ℕ
+      up = cell .high
+
       up-is : up ≡ highOf (getD we (x + 3) 0)
-      up-is = eu ∙ ap highOf (same (x + 3) (omega (arith, scan-inside)))
+      unfolding up
+      up-is = read .high ∙ ap highOf (same (x + 3) (omega (arith, scan-inside)))
 
       up-more : (hi < up) × (up ≤ 65535)
       up-more = omega (arith, next .cell .rises, next .cell .below, up-is, port-top)
 
-      pub scan-less : 65535 - up < 65535 - hi
+      pub scan-less : 65535 - cell .high < 65535 - hi
+      unfolding up
       scan-less = omega (arith, up-more)
 
       chained : up < 65535 → Chain (next .count) n 5 (take 1555 we) we (cellsAt 6) (up + 1) (x + 3 + 3)
       chained h = subst (λ (y : ℕ). Chain (next .count) n 5 (take 1555 we) we (cellsAt 6) (y + 1) (x + 3 + 3)) (sym up-is) (next .rest (omega (arith, up-is, port-top)))
 
-      module _ {ok' : Bool} (eo : ok' ≡ okAt a b ya yb work (x + 3)) where
-        next-sec : (y : ℕ) → hi < y → y ≤ up → secOf 1 n (take 1555 we) a b y ≡ oneLine ok'
-        next-sec y h k =
-            cell-sec n a b ya yb we (hi + 1) (x + 3) y (t .ready) next (omega arith) (omega (arith, up-is))
-            ∙ ap₂ (λ (p q : ℕ). oneLine (firstOr 64 ya (bitAnd a p) (firstOr 64 yb (bitAnd b q) false))) (sym (same (x + 3 + 1) (omega (arith, scan-inside)))) (sym (same (x + 3 + 2) (omega (arith, scan-inside))))
-            ∙ ap oneLine (sym eo)
+      next-sec : (y : ℕ) → hi < y → y ≤ up → secOf 1 n (take 1555 we) a b y ≡ oneLine (cell .ok)
+      next-sec y h k =
+          cell-sec n a b ya yb we (hi + 1) (x + 3) y (t .ready) next (omega arith) (omega (arith, up-is))
+          ∙ ap₂ (λ (p q : ℕ). oneLine (firstOr 64 ya (bitAnd a p) (firstOr 64 yb (bitAnd b q) false))) (sym (same (x + 3 + 1) (omega (arith, scan-inside)))) (sym (same (x + 3 + 2) (omega (arith, scan-inside))))
+          ∙ ap oneLine (sym (judged-ok read))
 
-        -- the verdict is the same
-        pub scan-on : Bool·beq ok' ok ≡ true → Scan n at a b ya yb we work (x + 3) lo up ok end
-        scan-on e = record {
-          ready = t .ready;
-          done = t .done;
-          pending = pending-on (secOf 1 n (take 1555 we) a b) 65536 (tableLeft 1 n (take 1555 we) a b) (t .done) lo hi (oneLine ok) (t .pending) up (oneLine ok') (up-more .0) (omega (arith, up-more)) next-sec (ap oneLine (sym (same-verdict ok' ok e)));
-          held = t .held;
-          at-end = t .at-end;
-          few = omega (arith, t .few);
-          count = next .count;
-          chain = chained;
-          base = t .base;
-          fits = t .fits;
-          low = t .low;
-          high = omega (arith, up-more, port-top);
-          long = t .long;
-          place = omega (arith, scan-inside);
-        }
+      -- the verdict is the same
+      pub scan-on : Bool·beq (cell .ok) ok ≡ true → Scan n at a b ya yb we work (x + 3) lo (cell .high) ok ra rb end
+      unfolding up
+      scan-on e = record {
+        ready = t .ready;
+        done = t .done;
+        pending = pending-on (secOf 1 n (take 1555 we) a b) 65536 (tableLeft 1 n (take 1555 we) a b) (t .done) lo hi (oneLine ok) (t .pending) up (oneLine (cell .ok)) (up-more .0) (omega (arith, up-more)) next-sec (ap oneLine (sym (same-verdict (cell .ok) ok e)));
+        held = t .held;
+        at-end = t .at-end;
+        few = omega (arith, t .few);
+        count = next .count;
+        chain = chained;
+        base = t .base;
+        fits = t .fits;
+        low = t .low;
+        high = omega (arith, up-more, port-top);
+        long = t .long;
+        place = omega (arith, scan-inside);
+        verdict = t .verdict;
+      }
 
-        -- the other verdict
-        pub scan-new : {w' : List ℕ} {end' lo' : ℕ} → RunPut end lo hi ok work w' end' → length w' ≡ length work → lo' ≡ lowOf (getD work (x + 3) 0) → Bool·beq ok' ok ≡ false → Scan n at a b ya yb we w' (x + 3) lo' up ok' end'
-        scan-new {w'} {end'} {lo'} p g el e =
-            let q : suc hi ≡ lo' = omega (arith, el, ap lowOf (same (x + 3) (omega (arith, scan-inside))), next .cell .low) in
-            let f = secOf 1 n (take 1555 we) a b in
-            let whole = tableLeft 1 n (take 1555 we) a b in
-            record {
-              ready = t .ready;
-              done = t .done ++ putBefore (lo to hi) (oneLine ok);
-              pending = subst (λ (u : ℕ). Pending f 65536 whole (t .done ++ putBefore (lo to hi) (oneLine ok)) u up (oneLine ok')) q
-                  (pending-new f 65536 whole (t .done) lo hi (oneLine ok) (t .pending) up (oneLine ok') (up-more .0) (omega (arith, up-more)) next-sec (other-verdict ok' ok e));
-              held = put-held p;
-              at-end = put-length p;
-              few = omega (arith, put-few p);
-              count = next .count;
-              chain = chained;
-              base = t .base;
-              fits = t .fits;
-              low = omega (arith, q, up-more, port-top);
-              high = omega (arith, up-more, port-top);
-              long = g ∙ t .long;
-              place = omega (arith, scan-inside);
-            }
+      -- the other verdict
+      pub scan-new : {w' : List ℕ} {end' : ℕ} → RunPut end lo hi ok work w' end' → length w' ≡ length work → Bool·beq (cell .ok) ok ≡ false → Scan n at a b ya yb we w' (x + 3) (cell .low) (cell .high) (cell .ok) (cell .a) (cell .b) end'
+      unfolding up
+      scan-new {w'} {end'} p g e =
+          let q : suc hi ≡ cell .low = omega (arith, read .low, ap lowOf (same (x + 3) (omega (arith, scan-inside))), next .cell .low) in
+          let f = secOf 1 n (take 1555 we) a b in
+          let whole = tableLeft 1 n (take 1555 we) a b in
+          record {
+            ready = t .ready;
+            done = t .done ++ putBefore (lo to hi) (oneLine ok);
+            pending = subst (λ (u : ℕ). Pending f 65536 whole (t .done ++ putBefore (lo to hi) (oneLine ok)) u up (oneLine (cell .ok))) q
+                (pending-new f 65536 whole (t .done) lo hi (oneLine ok) (t .pending) up (oneLine (cell .ok)) (up-more .0) (omega (arith, up-more)) next-sec (other-verdict (cell .ok) ok e));
+            held = put-held p;
+            at-end = put-length p;
+            few = omega (arith, put-few p);
+            count = next .count;
+            chain = chained;
+            base = t .base;
+            fits = t .fits;
+            low = omega (arith, q, up-more, port-top);
+            high = omega (arith, up-more, port-top);
+            long = g ∙ t .long;
+            place = omega (arith, scan-inside);
+            verdict = read .verdict;
+          }
 
-pub ruleset scanning = (needs, judged-ok, scan-first, scan-start, scan-room, put-few, scan-done, scan-fits, scan-less, scan-on, scan-new)
+pub ruleset scanning = (needs, scan-first, scan-start, scan-room, scan-ready, put-few, scan-done, scan-fits, scan-less)

@@ -12,7 +12,7 @@ use lib.Bits.{bitAnd}
 use lib.Pow.{pow-mono}
 use borrow.Author.Needs.{needs}
 use borrow.Author.Tests.{lt-ltb, le-ltb, le-leb, lt-leb, eq-eqb, ne-eqb}
-use Rattle.flows.specs.Table.{_to_, inRange}
+use Rattle.flows.specs.Table.{inRange}
 use Rattle.flows.specs.Rules.{inSome}
 use Rattle.text.proofs.Tests.{by-test}
 use Rattle.builder.specs.Encoding.{lowOf, highOf, rangeOf, atMostSeven, columnOf}
@@ -167,7 +167,7 @@ meets-not k j x near y w h e f g =
     let s : false ≡ (not (eqb (bitAnd (getD w (x + j) 0) near) 0) && meetsAll (k - (j + 1)) (drop (x + (j + 1)) w) near) = rw t in
     s ∙ sym (meets-step k j x near w h) ∙ e
 
-pub ruleset words = (needs, range-yes, range-no, word-is, bits-room, bits-grow, bits-room2, bits-grow2, near-start, near-one, near-zero, near-end, meets-start, meets-end, meets-more, meets-not)
+pub ruleset words = (needs, bits-room, bits-grow, bits-room2, bits-grow2, near-start, near-one, near-zero, near-end, meets-start, meets-end, meets-more, meets-not)
 
 -- ---- one of two ranges
 pub one-first : (R : List ℕ) (x y v r : ℕ) (b : Bool) → r ≡ getD R x 0 → b ≡ inRange (lowOf r) (highOf r) v → b ≡ true → true ≡ inSome (rangeOf (getD R x 0) ∷ (rangeOf (getD R y 0) ∷ [])) v

@@ -9,9 +9,10 @@ use lib.Bits.{bitAnd}
 use Rattle.flows.specs.Table.{Table, _to_, putBefore}
 use Rattle.builder.specs.declared.Built.{Built}
 use Rattle.builder.specs.declared.live.Run.{Run}
+use Rattle.builder.specs.declared.live.Judged.{Judged}
 use Rattle.builder.specs.Promise.{answerOf}
 use Rattle.builder.specs.Encoding.{lowOf, highOf, putInto, tableWords}
-use Rattle.builder.specs.Cells.{maskOf, startsOf, cellsAt, Cut}
+use Rattle.builder.specs.Cells.{firstOr, maskOf, startsOf, cellsAt, Cut}
 
 -- The table t, with its dimensions from d on, is built from line `at` on, and what stands before is kept: w before, w' after
 pub record BuiltTo (t : Table) (at d : ℕ) (w w' : List ℕ) (r : Built) : Type 0 where
@@ -45,6 +46,14 @@ pub record CellRead (a b x : ℕ) (w : List ℕ) (r : Run) : Type 0 where
   pub second : r .b ≡ bitAnd b (getD w (x + 2) 0)
   pub third : r .c ≡ bitAnd a (getD w (x + 1) 0)
   pub fourth : r .d ≡ bitAnd b (getD w (x + 2) 0)
+
+-- The same of the last dimension, with the verdict of the first live rule
+pub record JudgedRead (a b ya yb x : ℕ) (w : List ℕ) (r : Judged) : Type 0 where
+  pub low : r .low ≡ lowOf (getD w x 0)
+  pub high : r .high ≡ highOf (getD w x 0)
+  pub first : r .a ≡ bitAnd a (getD w (x + 1) 0)
+  pub second : r .b ≡ bitAnd b (getD w (x + 2) 0)
+  pub verdict : r .ok ≡ firstOr 64 ya (r .a) (firstOr 64 yb (r .b) false)
 
 -- The live sets of a run have the table s; f gives the table of two live sets
 abbrev pub Have : (ℕ → ℕ → Table) → Table → Run → Type 0

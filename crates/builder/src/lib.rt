@@ -17,7 +17,6 @@ ghost use Rattle.builder.specs.Promise.{BuiltIn};
 mod cells;
 mod drops;
 mod encoding;
-mod last;
 mod lines;
 mod live;
 mod sections;

@@ -5,7 +5,7 @@ ghost use Prim.Native.Nat.{_+_, _≤_};
 ghost use lib.ListN.{length};
 ghost use lib.Bits.{bitAnd};
 ghost use Rattle.builder.specs.Cells.{firstOr};
-ghost use Rattle.builder.specs.Post.{CellRead, Known, Longer};
+ghost use Rattle.builder.specs.Post.{CellRead, JudgedRead, Known, Longer};
 use crate::encoding::high;
 use crate::encoding::low;
 
@@ -107,5 +107,29 @@ pub fn longer(run: Run, cell: Run) -> Run
         b: cell.b,
         c: c,
         d: d,
+    }
+}
+
+// A run of the last dimension, the live sets of its first cell, and whether the first rule of these accepts.
+pub struct Judged {
+    pub low: u64,
+    pub high: u64,
+    pub a: u64,
+    pub b: u64,
+    pub ok: bool,
+}
+
+// The cell at place x, judged.
+pub fn judged_at(work: &[u64], x: usize, a: u64, b: u64, ya: u64, yb: u64) -> Judged
+    requires { ⌜ x + 3 ≤ length (now work) ⌝ }
+    ensures { λ r. ⌜ JudgedRead a b ya yb x (now (work .entry)) r ⌝ }
+{
+    let c = cell_at(work, x, a, b);
+    Judged {
+        low: c.low,
+        high: c.high,
+        a: c.a,
+        b: c.b,
+        ok: accepts(ya, yb, c.a, c.b),
     }
 }

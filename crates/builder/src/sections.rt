@@ -1,19 +1,76 @@
-// The lines of a cross section, one dimension fewer with each call.
+// The lines of a cross section, one dimension fewer with each call, from six to none.
+ghost use mathlib.Core.Path.{_≡_};
+ghost use mathlib.Core.Bool.{false};
 ghost use Prim.Native.Nat.{_+_, _-_, _*_, _≤_};
 ghost use lib.ListN.{length};
 ghost use Rattle.builder.specs.Encoding.{ruled};
-ghost use Rattle.builder.specs.Cells.{tableLeft, Ready};
-ghost use Rattle.builder.specs.Post.{BuiltTo};
+ghost use Rattle.builder.specs.Cells.{topOf, firstOr, tableLeft, Ready};
+ghost use Rattle.builder.specs.Post.{BuiltTo, RunPut};
 use crate::Built;
 use crate::cells::place;
 use crate::cells::top;
-use crate::last::last_section;
+use crate::lines::blank;
 use crate::lines::close;
 use crate::lines::settle;
+use crate::live::Judged;
+use crate::live::accepts;
 use crate::live::cell_at;
 use crate::live::is_known;
+use crate::live::judged_at;
 use crate::live::longer;
 use crate::live::none_accepts;
+
+// No dimension left: one line or none.
+fn leaf(work: &mut [u64], n: usize, at: usize, a: u64, b: u64, ya: u64, yb: u64) -> Built
+    requires { ⌜ (3 * at + 3 ≤ length (now work)) × Ready n ya yb (ruled (now work)) (now work) ⌝ }
+    ensures { λ r. ⌜ BuiltTo (tableLeft 0 n (ruled (now (work .entry))) a b) at 6 (now (work .entry)) (now (work .exit)) r ⌝ }
+{
+    if accepts(ya, yb, a, b) {
+        blank(work, at);
+        Built::Lines(1)
+    } else {
+        Built::Lines(0)
+    }
+}
+
+// The lines of a run of the last dimension; where the next ones go.
+fn put_run(work: &mut [u64], n: usize, at: usize, run: Judged, ya: u64, yb: u64) -> usize
+    requires { ⌜ (2357 ≤ at) × (3 * at + 3 ≤ length (now work)) × (run .low ≤ topOf 5) × (run .high ≤ topOf 5) × (run .ok ≡ firstOr 64 ya (run .a) (firstOr 64 yb (run .b) false)) × Ready n ya yb (ruled (now work)) (now work) ⌝ }
+    ensures { λ r. ⌜ RunPut at (run .low) (run .high) (run .ok) (now (work .entry)) (now (work .exit)) r ⌝ }
+{
+    if !run.ok {
+        return at;
+    }
+    let Built::Lines(more) = section(work, n, at, 0, run.a, run.b, ya, yb) else {
+        return at;
+    };
+    let next = at + more;
+    close(work, at, next, 5, run.low, run.high);
+    next
+}
+
+// One dimension left: cells whose verdicts are the same are one run, and need no lines to compare. Most of a build is spent here.
+// There are never too many lines: a dimension has at most 285 cells.
+fn last_section(work: &mut [u64], n: usize, at: usize, a: u64, b: u64, ya: u64, yb: u64) -> Built
+    requires { ⌜ (2357 ≤ at) × (3 * (at + 512) + 3 ≤ length (now work)) × Ready n ya yb (ruled (now work)) (now work) ⌝ }
+    ensures { λ r. ⌜ BuiltTo (tableLeft 1 n (ruled (now (work .entry))) a b) at 5 (now (work .entry)) (now (work .exit)) r ⌝ }
+{
+    let mut x = place(5);
+    let mut run = judged_at(work, x, a, b, ya, yb);
+    let mut end = at;
+    while run.high < 65535 {
+        x += 3;
+        let next = judged_at(work, x, a, b, ya, yb);
+        if next.ok == run.ok {
+            run.high = next.high;
+        } else {
+            end = put_run(work, n, end, run, ya, yb);
+            run = next;
+        }
+    }
+    end = put_run(work, n, end, run, ya, yb);
+    Built::Lines(end - at)
+}
 
 // The lines of the rules of two live sets with `left` dimensions left, from line `at` on. Each cell's section is built behind the pending run's,
 // and dropped where it is the same; a run's ends are put before its lines when it is over.
@@ -27,11 +84,14 @@ pub fn section(
     ya: u64,
     yb: u64,
 ) -> Built
-    requires { ⌜ (1 ≤ left) × (left ≤ 6) × (2357 ≤ at) × (3 * (at + 512 * left) + 3 ≤ length (now work)) × Ready n ya yb (ruled (now work)) (now work) ⌝ }
+    requires { ⌜ (left ≤ 6) × (2357 ≤ at) × (3 * (at + 512 * left) + 3 ≤ length (now work)) × Ready n ya yb (ruled (now work)) (now work) ⌝ }
     ensures { λ r. ⌜ BuiltTo (tableLeft left n (ruled (now (work .entry))) a b) at (6 - left) (now (work .entry)) (now (work .exit)) r ⌝ }
 {
     if none_accepts(ya, yb, a, b) {
         return Built::Lines(0);
+    }
+    if left == 0 {
+        return leaf(work, n, at, a, b, ya, yb);
     }
     if left == 1 {
         return last_section(work, n, at, a, b, ya, yb);

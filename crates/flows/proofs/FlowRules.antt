@@ -1,5 +1,5 @@
 -- The rules that drop what is no flow, put in front of others, leave exactly the flows to those.
-use Prim.Native.Nat.{ℕ, _+_, _-_, _≤_, _<_}
+use Prim.Native.Nat.{ℕ, _≤_, _<_}
 use mathlib.Core.Path.{_≡_, refl, _∙_}
 use mathlib.Core.Bool.{Bool, true, false, _&&_, _||_, not, cond, or-true, and-true}
 use mathlib.Core.List.{List, [], _∷_, _++_}
@@ -8,7 +8,7 @@ use native.Mathlib.Omega.{arith}
 use borrow.Author.Tests.{ltb-true, ltb-false, leb-true, leb-false, eqb-true, eqb-false, ne-eqb}
 use Rattle.flows.specs.Table.{Point, _to_, within, tableOf}
 use Rattle.flows.specs.Flow.{widths, flowNumbers, isFlow}
-use Rattle.flows.specs.Rules.{Rule, rule, Said, said, inSome, inAll, inBox, firstMatch, orDrop, accepts, letThrough, flowRules}
+use Rattle.flows.specs.Rules.{Rule, Said, said, inSome, inAll, inBox, firstMatch, orDrop, accepts, letThrough, flowRules}
 use Rattle.flows.specs.Cells.{cellTable, cutsOf}
 use Rattle.text.proofs.Tests.{by-test, and-left, and-right, clash}
 use Rattle.flows.proofs.Runs.{in-yes, in-low, in-high}

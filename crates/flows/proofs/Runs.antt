@@ -6,7 +6,7 @@ use mathlib.Core.List.{List, [], _∷_, cons≢nil}
 use lib.Dec.{leb, eqb}
 use native.Mathlib.Omega.{arith}
 use borrow.Author.Tests.{leb-true, leb-false, eqb-true, eqb-false, le-leb, lt-leb, eq-eqb}
-use Rattle.flows.specs.Table.{_to_, Run, run, Line, Table, inRange, eqTable, joinRun, addRun, runsFrom}
+use Rattle.flows.specs.Table.{Run, run, Line, Table, inRange, eqTable, joinRun, addRun, runsFrom}
 use Rattle.text.proofs.Tests.{by-test, and-left, and-right, both, clash}
 use Rattle.flows.proofs.Equal.{eqTable-eq, eqTable-refl}
 

@@ -1,5 +1,5 @@
 -- Which lists of lines are tables of sets of flows: a test of the whole and a test of each line.
-use Prim.Native.Nat.{ℕ, suc, _+_, _-_, _≤_, _<_}
+use Prim.Native.Nat.{ℕ, suc, _≤_, _<_}
 use native.Mathlib.Nat.{zero-add}
 use mathlib.Core.Path.{_≡_, refl, sym, _∙_, subst}
 use mathlib.Core.Bool.{Bool, true, _&&_, _||_, or-true}
@@ -10,23 +10,13 @@ use native.Mathlib.Omega.{arith}
 use borrow.Author.Tests.{eqb-true, lt-ltb, eq-eqb}
 use Rattle.flows.specs.Table.{Point, Set, _to_, Run, run, Line, Table, inRange, inLine, inTable, within, section, runsFrom, putBefore, linesOf, tableOf}
 use Rattle.flows.specs.Flow.{widths, flowNumbers, isFlow}
-use Rattle.flows.specs.Canonical.{canonical, flowEnds, flowLine, allLines, tableOfFlows}
+use Rattle.flows.specs.Canonical.{canonical, flowEnds, LineIn, AllLines, flowLine, allLines, tableOfFlows}
 use Rattle.text.proofs.Tests.{by-test, and-left, and-right, both, clash, split, or-split, or-left, or-right, or-map, or-else}
 use Rattle.flows.proofs.Runs.{Good, runs-good, in-lo, in-hi, in-yes}
 use Rattle.flows.proofs.Meaning.{in-table}
 use Rattle.flows.proofs.Canonical.{canonical-own, canonical-table, All, runs-all}
 
--- Each range of the line is one of values below the width
-abbrev pub LineIn : List ℕ → Line → Type 0
-LineIn [] [] = Unit {0}
-LineIn [] (r ∷ l) = ⊥
-LineIn (w ∷ ws) [] = ⊥
-LineIn (w ∷ ws) (lo to hi ∷ l) = (lo ≤ hi) × (hi < w) × LineIn ws l
-
-abbrev pub AllLines : (Line → Type 0) → Table → Type 0
-AllLines P [] = Unit {0}
-AllLines P (l ∷ t) = P l × AllLines P t
-
+-- Each range of a table's lines is one of values below its width
 pub put-lines : (w : ℕ) (ws : List ℕ) (lo hi : ℕ) (t u : Table) → lo ≤ hi → hi < w → AllLines (LineIn ws) t → AllLines (LineIn (w ∷ ws)) u → AllLines (LineIn (w ∷ ws)) (putBefore (lo to hi) t ++ u)
 unfolding putBefore
 put-lines w ws lo hi [] u h k a b = b

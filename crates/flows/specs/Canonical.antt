@@ -1,6 +1,6 @@
 -- A test that tells whether lines are the table of some set of flows (document 01, 'Answer numbers': "a stored table is .. the lines .. of
 -- the table of some set of flows"); proofs/Canonical.antt and proofs/Stored.antt show that it does.
-use Prim.Native.Nat.{ℕ, suc}
+use Prim.Native.Nat.{ℕ, suc, _≤_, _<_}
 use mathlib.Core.Bool.{Bool, true, false, _&&_, _||_, not}
 use mathlib.Core.List.{List, [], _∷_}
 use lib.Dec.{leb, ltb, eqb}
@@ -54,14 +54,25 @@ flowEnds p0 p1 opener remote device =
     (eqb opener 0 || (eqb p0 6 && eqb p1 6))
     && ((eqb remote 0 && eqb device 0) || ((eqb p0 6 && eqb p1 6) || (eqb p0 17 && eqb p1 17)))
 
-abbrev lowEnd : Range → ℕ
+abbrev pub lowEnd : Range → ℕ
 lowEnd (lo to hi) = lo
 
-abbrev highEnd : Range → ℕ
+abbrev pub highEnd : Range → ℕ
 highEnd (lo to hi) = hi
 
 abbrev rangeAt : Line → ℕ → Range
 rangeAt l d = getD l d (0 to 0)
+
+-- Each range of the line is one of numbers within the widths, low not above high
+abbrev pub LineIn : List ℕ → Line → Type 0
+LineIn [] [] = Unit {0}
+LineIn [] (r ∷ l) = ⊥
+LineIn (w ∷ ws) [] = ⊥
+LineIn (w ∷ ws) (lo to hi ∷ l) = (lo ≤ hi) × (hi < w) × LineIn ws l
+
+abbrev pub AllLines : (Line → Type 0) → Table → Type 0
+AllLines P [] = Unit {0}
+AllLines P (l ∷ t) = P l × AllLines P t
 
 unfoldable pub flowLine : Line → Bool
 flowLine l = flowEnds (lowEnd (rangeAt l 1)) (highEnd (rangeAt l 1)) (highEnd (rangeAt l 2)) (highEnd (rangeAt l 4)) (highEnd (rangeAt l 5))

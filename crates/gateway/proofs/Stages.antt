@@ -22,7 +22,7 @@ use Rattle.values.specs.declared.Verdict.{Verdict}
 use Rattle.values.specs.declared.Verdict.the-variants.{Clean, Unclean, Broken}
 use Rattle.values.specs.Tree.{treeOf}
 use Rattle.values.specs.Clean.{clean, verdictOf}
-use Rattle.site.specs.Site.{lines, judged}
+use Rattle.site.specs.Site.{judged}
 use Rattle.site.specs.declared.table.Judged.{Judged}
 use Rattle.site.specs.declared.table.Judged.the-variants.{Sound, TooLong, MalformedAt}
 use Rattle.naming.proofs.Lines.{lines-few}
@@ -133,9 +133,6 @@ module _ (file site : List ℕ) {w w′ : List ℕ} {t : Tally} (h : ReadIn site
         let n : entriesRead (treeOf 16 file) ≤ 64 = omega (arith, few-told z) in
         let q : tableOf widths (letThrough (rulesOf (t .count + 2) w′)) ≡ tableOf widths (lets (treeOf 16 file) site) = same-table widths _ _ (λ p i. told-rules s z p) in
         goes-on (rw q at a) (rw (k, s, le-ltb 64 (entriesRead (treeOf 16 file)) n))
-
-pub few-lines : (site : List ℕ) → judged site ≡ Sound → length (lines site 0) ≤ 64
-few-lines site e = lines-few site e
 
 -- ## 4 to 6
 module _ (file site : List ℕ) where

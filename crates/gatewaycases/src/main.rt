@@ -6,9 +6,7 @@
 // back: the four places are where the front, the block, the repeated block and the whole end.
 use gateway::Answer;
 use libc::STDOUT_FILENO;
-ghost use mathlib.Core.Path.{_≡_};
 ghost use Prim.Native.Nat.{_≤_};
-ghost use lib.ListN.{length};
 ghost use Rattle.io.specs.Counts.{Counts};
 
 fn wide(b: u8) -> usize

@@ -338,4 +338,4 @@ module _ (s : List ℕ) (at : ℕ) {r : Read} (e : r ≡ tokenAt 34 s at) where
 
 pub ruleset looping = (loops, hex-fits)
 
-pub ruleset lexing = (needs, past-fits, past-is, past-same, past-range, hex-fits, escape-fits, plain-fits, digit-fits, or-first, or-later, or-is, or-not, token-zero, token-is, token-not, next-zero, next-done, next-more, next-wrong, tails-is, tails-not, wide-2, wide-E0, wide-E1, wide-ED, wide-EE, wide-F0, wide-F1, wide-F4, wide-none, escape-one, escape-hex, escape-not, char-plain, char-escape, char-wide, string-going, string-end, string-bad, string-on, string-less, some-is, some-not, minus-is, minus-not, sign-is, sign-not, int-zero, int-some, int-not, fraction-dot, fraction-none, exponent-e, exponent-E, exponent-none, number-int, number-fraction, number-exponent, key-quote, key-string, key-colon)
+pub ruleset lexing = (needs, past-fits, past-is, past-same, past-range, escape-fits, plain-fits, digit-fits, or-first, or-later, or-is, or-not, token-zero, token-is, token-not, next-zero, next-done, next-more, next-wrong, tails-is, tails-not, wide-2, wide-E0, wide-E1, wide-ED, wide-EE, wide-F0, wide-F1, wide-F4, wide-none, escape-one, escape-hex, escape-not, char-plain, char-escape, char-wide, string-going, string-end, string-bad, string-on, string-less, some-is, some-not, minus-is, minus-not, sign-is, sign-not, int-zero, int-some, int-not, fraction-dot, fraction-none, exponent-e, exponent-E, exponent-none, number-int, number-fraction, number-exponent, key-quote, key-string, key-colon)

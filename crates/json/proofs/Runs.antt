@@ -136,4 +136,4 @@ module _ {step : ℕ → Next} {s : List ℕ} {w : Read} {j : ℕ} (h : Going st
     pub going-less : {k : ℕ} → n ≡ More k → length s - k < length s - j
     going-less {k} r = let m : NextPast s j (More k) = rw (← u, r) at (up j) in omega arith
 
-pub ruleset loops = (needs, not-true, not-false, past-fits, past-is, past-range, span-out, span-not, span-on, times-done, times-not, times-on, word-end, word-zero, word-not, word-on)
+pub ruleset loops = (needs, not-true, not-false, past-fits, past-range, span-out, span-not, span-on, times-done, times-not, times-on, word-end, word-zero, word-not, word-on)

@@ -2,7 +2,6 @@
 ghost use mathlib.Core.Path.{_≡_};
 ghost use lib.ListN.{length};
 ghost use Rattle.stored.specs.Stored.{verdictOf};
-ghost use Rattle.gateway.specs.Answer.{answerOf, answerNumber, lineCount, replyAfter, workAfter};
 ghost use Rattle.kernel.specs.Boundary.{BuildReturns, asked, verdictCode};
 use flows::Numbers;
 use gateway::Answer;

@@ -2,15 +2,15 @@
 -- Assumes nothing.
 use Prim.Native.Nat.{ℕ, _+_, _≤_, _<_}
 use native.Mathlib.Omega.{arith}
-use mathlib.Core.Path.{_≡_, refl, sym, subst, _∙_}
+use mathlib.Core.Path.{_≡_, refl, sym, _∙_}
 use mathlib.Core.List.{List, [], _∷_}
-use mathlib.Core.Bool.{Bool, true, false, not, cond, _&&_, _||_}
+use mathlib.Core.Bool.{Bool, true, false, not, cond, _||_}
 use lib.ListN.{length}
 use borrow.Author.Tests.{not-true}
 use Rattle.text.specs.Words.{sameBytes}
-use Rattle.text.proofs.Tests.{by-test, clash, and-left, and-right}
+use Rattle.text.proofs.Tests.{clash, and-left, and-right}
 use Rattle.text.proofs.WordLaws.{same-iff}
-use Rattle.values.specs.declared.Spot.the-variants.{Taken, Free}
+use Rattle.values.specs.declared.Spot.the-variants.{Free}
 use Rattle.values.specs.declared.Entry.{Entry}
 use Rattle.values.specs.declared.Entry.the-variants.{Known, Kept, Full}
 use Rattle.values.specs.Decode.{bytesAt}

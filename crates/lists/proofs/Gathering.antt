@@ -1,13 +1,11 @@
 -- Laws of the lists of the file, gathered by their names. Assumes nothing.
-use Prim.Native.Nat.{ℕ, _+_, _-_, _^_, _≤_, _<_}
+use Prim.Native.Nat.{ℕ, _+_, _≤_, _<_}
 use native.Mathlib.Omega.{arith}
 use mathlib.Core.Path.{_≡_, refl, sym, ap, subst, _∙_}
-use mathlib.Core.Bool.{Bool, true, false}
+use mathlib.Core.Bool.{true, false}
 use mathlib.Core.List.{List, _++_}
 use lib.ListN.{length, getD, take, length-append, List·getD-append}
 use lib.Seq.{getD-take, length-take-le}
-use mir.Syntax.{w64}
-use mir.Val.{Fits}
 use borrow.Author.Needs.{needs}
 use Rattle.text.specs.Ascii.{ascii}
 use Rattle.text.specs.Words.{sameBytes}
@@ -20,12 +18,12 @@ use Rattle.json.proofs.Runs.{past-is}
 use Rattle.values.specs.declared.Found.{Found}
 use Rattle.values.specs.declared.Found.the-variants.{At, Missing}
 use Rattle.values.specs.declared.Entry.{Entry}
-use Rattle.values.specs.declared.Entry.the-variants.{Known, Kept, Full}
-use Rattle.values.specs.declared.Spot.the-variants.{Taken, Free}
+use Rattle.values.specs.declared.Entry.the-variants.{Known, Kept}
+use Rattle.values.specs.declared.Spot.the-variants.{Free}
 use Rattle.values.specs.Decode.{bytesAt}
-use Rattle.values.specs.Tree.{Elements, no-more, element, none, some, elementsFrom, elementsAfter, itemsFrom, treeAt, treeOf, lookup, seen}
+use Rattle.values.specs.Tree.{Elements, no-more, some, elementsFrom, elementsAfter, itemsFrom, treeAt, treeOf, lookup, seen}
 use Rattle.values.specs.Rules.{firstWith}
-use Rattle.values.specs.Names.{nameIn, ownerIn, keyAt, Rising, Spotted, FoundAmong, Inserted, Entered, grownOf}
+use Rattle.values.specs.Names.{nameIn, ownerIn, keyAt, Rising, Spotted, FoundAmong, Inserted, Entered}
 use Rattle.values.proofs.Naming.{kept-words, kept-each, free-differ, rising-on, grown-room}
 use Rattle.values.proofs.Walking.{elements-turn, element-after-done, element-after-wrong, element-after-more, element-less}
 use Rattle.lists.specs.declared.index.Index.{Index}
@@ -33,7 +31,7 @@ use Rattle.lists.specs.declared.index.Index.the-variants.{Upto, Without}
 use Rattle.lists.specs.Lists.{isNamed, nameOf, listNamed, listsOf}
 use Rattle.lists.specs.Index.{Gathered, Onward, Indexed, aboveOf, Above}
 use Rattle.lists.proofs.Different.{refuted}
-use Rattle.lists.proofs.Laws.{listing, nameAt, is-named-none, is-named-other, is-named-is}
+use Rattle.lists.proofs.Laws.{listing, is-named-none, is-named-other, is-named-is}
 
 -- ## words that stay
 gathered-same : {s : List ℕ} {es : Elements} {a : List ℕ} {hi : ℕ} {rest : Elements} (b : List ℕ) → hi ≤ length b → ((k : ℕ) → 1555 ≤ k → k < hi → getD b k 0 ≡ getD a k 0) → Gathered s es a hi rest → Gathered s es b hi rest
@@ -159,11 +157,7 @@ pub onward-without : (s : List ℕ) (j : ℕ) (a b : List ℕ) (hi : ℕ) → On
 unfolding Onward
 onward-without s j a b hi = tt
 
-pub kept-fits : (s : List ℕ) (x k : ℕ) (a b : List ℕ) (lo hi : ℕ) {r : Entry} → Entered s x k a lo hi b r → r ≡ Kept → length a < 2 ^ 64 → Fits w64 (hi + 1)
-unfolding Entered
-kept-fits s x k a b lo hi en q l = let h = subst (Entered s x k a lo hi b) q en .0 in omega arith
-
-pub ruleset adding = (needs, past-is, onward-none, onward-other, onward-known, onward-kept, onward-without, kept-fits)
+pub ruleset adding = (needs, past-is, onward-none, onward-other, onward-known, onward-kept, onward-without)
 
 -- all of them, one after the other
 module _ (s : List ℕ) (es : Elements) (j : ℕ) {a : List ℕ} {hi : ℕ} (g : Gathered s es a hi (elementsFrom 13 s j)) (b : List ℕ) {r : Index} (o : Onward s j a hi b r) {top : ℕ} (q : r ≡ Upto top) {n : Next} (f : n ≡ elementAt (valueAt 13 s) s j) where
@@ -220,11 +214,11 @@ module _ (s : List ℕ) (es : Elements) (a : List ℕ) {x : Index} (g : Indexed 
   pub index-rising : Rising s a 1555 hi
   index-rising = index-of .rising
 
-  pub index-found : (n i : ℕ) → bytesAt s i ≡ nameAt 11 s n → (r : Found) → FoundAmong s (bytesAt s i) a 1555 hi r → listNamed es (treeAt 11 s n) ≡ seen (treeAt 13 s) r
+  pub index-found : (n i : ℕ) → bytesAt s i ≡ nameOf (treeAt 11 s n) → (r : Found) → FoundAmong s (bytesAt s i) a 1555 hi r → listNamed es (treeAt 11 s n) ≡ seen (treeAt 13 s) r
   unfolding listNamed
   index-found n i e r h = rw (← e) (found-named s es a hi i index-of r h)
 
-pub ruleset looking = (needs, past-is, index-from, index-room, index-rising, index-found)
+pub ruleset looking = (needs, index-from, index-room, index-rising, index-found)
 
 -- the lists, by the places that functions were told
 module _ (s : List ℕ) (a : List ℕ) (x : Index) where

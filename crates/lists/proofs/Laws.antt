@@ -1,11 +1,10 @@
 -- Laws of names, lists and policies.
-use Prim.Native.Nat.{ℕ, suc, _+_, _-_, _≤_}
-use native.Mathlib.Omega.{arith}
-use mathlib.Core.Path.{_≡_, refl, sym, _∙_}
-use mathlib.Core.List.{List, [], _∷_}
-use mathlib.Core.Bool.{Bool, true, false, not, _&&_, _||_}
-use lib.ListN.{length, getD, List·getD-eq-default}
-use borrow.Author.Tests.{not-true, not-false, ne-eqb}
+use Prim.Native.Nat.{ℕ, suc, _+_, _-_}
+use mathlib.Core.Path.{_≡_, sym, _∙_}
+use mathlib.Core.List.{List, _∷_}
+use mathlib.Core.Bool.{Bool, true, false, not, _||_}
+use lib.ListN.{getD}
+use borrow.Author.Tests.{not-true, not-false}
 use Rattle.text.specs.Ascii.{ascii}
 use Rattle.text.specs.Words.{sameBytes}
 use Rattle.text.proofs.Tests.{chained}
@@ -17,54 +16,23 @@ use Rattle.values.specs.declared.Found.{Found}
 use Rattle.values.specs.declared.Found.the-variants.{At, Missing}
 use Rattle.values.specs.declared.Entry.{Entry}
 use Rattle.values.specs.declared.Entry.the-variants.{Full}
-use Rattle.values.specs.Decode.{pieceAt, bytesAt}
+use Rattle.values.specs.Decode.{bytesAt}
 use Rattle.values.specs.Names.{Entered, grownOf}
-use Rattle.values.specs.Tree.{Json, null, bool, integer, real, string, array, object, Elements, no-more, element, elementsFrom, elementsAfter, items, itemsFrom, treeAt, treeOf, lookup, seen, isString, none}
+use Rattle.values.specs.Tree.{Json, Elements, no-more, elementsFrom, elementsAfter, items, itemsFrom, treeAt, treeOf, lookup, seen, none}
 use Rattle.values.specs.Rules.{must, all, text, firstWith}
-use Rattle.values.proofs.Decoding.{string-turn}
-use Rattle.values.proofs.Trees.{tree-string}
 use Rattle.values.proofs.Walking.{elements-turn, element-after-done, element-after-wrong, element-after-more, element-less}
-use Rattle.values.proofs.Sorts.{string-kind}
-use Rattle.values.proofs.Naming.{grown-fits, entered-below}
-use Rattle.values.proofs.Patterns.{must-none, must-some, may-none, may-some, text-is, text-not}
+use Rattle.values.proofs.Naming.{grown-fits}
+use Rattle.values.proofs.Patterns.{may-none, may-some, text-is, text-not, string-found}
 use Rattle.header.specs.Asked.{isAmong}
 use Rattle.flows.specs.declared.Direction.{Direction}
 use Rattle.flows.specs.declared.Direction.the-variants.{FromDevice, ToDevice}
 use Rattle.lists.specs.declared.names.Beside.{Beside}
 use Rattle.lists.specs.declared.names.Beside.the-variants.{Twice, Once}
-use Rattle.lists.specs.Lists.{isNamed, bytesOf, nameOf, namesOf, allDifferent, nestedOk, nested, policyName, policyOk, policyLists, listsOk, listsOf, hasType, listOk, listNamed, namedOk, directionOk, bothOk, policiesOk}
+use Rattle.lists.specs.Lists.{isNamed, nameOf, namesOf, allDifferent, nestedOk, nested, policyName, policyOk, policyLists, listsOk, listsOf, hasType, listOk, listNamed, namedOk, directionOk, bothOk, policiesOk}
 use Rattle.lists.specs.Names.{againOf, Added}
 use Rattle.lists.proofs.Different.{Different, twice-again, once-fresh, different-from, different-again, different-next, different-end}
 
--- ## the name of an element
-bytes-end : (s : List ℕ) → bytesAt s (length s) ≡ []
-unfolding pieceAt
-bytes-end s = let h : length s ≤ length s = omega arith in string-turn s (length s) ∙ rw (List·getD-eq-default s 0 h)
-
-no-name : (j : Json) → isString j ≡ false → bytesOf j ≡ []
-no-name null e = refl
-no-name (bool b) e = refl
-no-name (integer n) e = refl
-no-name real e = refl
-no-name (string b) e = absurd (let z : _≡_ {A = ℕ} 0 1 = cc in omega arith)
-no-name (array es) e = refl
-no-name (object ms) e = refl
-
-module _ (d : ℕ) (s : List ℕ) (at : ℕ) {r : Found} (e : lookup (ascii "name") (treeAt d s at) ≡ seen (treeAt (d - 1) s) r) where
-  pub name-missing : r ≡ Missing → bytesAt s (length s) ≡ nameOf (lookup (ascii "name") (treeAt d s at))
-  name-missing q = rw (e, q) (bytes-end s)
-
-  module _ {p : ℕ} (q : r ≡ At p) {b : ℕ} (f : b ≡ getD s p 0) where
-    pub name-string : b ≡ 34 → bytesAt s (p + 1) ≡ nameOf (lookup (ascii "name") (treeAt d s at))
-    name-string u = rw (e, q, tree-string (d - 1) s p f u)
-
-    pub name-other : (b ≡ 34 → ⊥) → bytesAt s (length s) ≡ nameOf (lookup (ascii "name") (treeAt d s at))
-    name-other u = rw (e, q) (bytes-end s ∙ sym (no-name (treeAt (d - 1) s p) (sym (string-kind (d - 1) s p b f) ∙ ne-eqb b 34 u)))
-
 -- ## names after a place: t is the whole's answer
-abbrev pub nameAt : ℕ → List ℕ → ℕ → List ℕ
-nameAt d s i = nameOf (lookup (ascii "name") (treeAt d s i))
-
 module _ (d : ℕ) (s b : List ℕ) (j : ℕ) {t : Bool} (inv : t ≡ isAmong b (namesOf (elementsAfter d s j))) {n : Next} (f : n ≡ elementAt (valueAt d s) s j) where
   pub later-done : {k : ℕ} → n ≡ Done k → false ≡ t
   unfolding namesOf isAmong
@@ -74,7 +42,7 @@ module _ (d : ℕ) (s b : List ℕ) (j : ℕ) {t : Bool} (inv : t ≡ isAmong b 
   unfolding namesOf isAmong
   later-wrong u = sym (rw (element-after-wrong d s j f u) at inv)
 
-  module _ {k : ℕ} (u : n ≡ More k) {i : ℕ} (g : i ≡ spanAt isSpace s k) (m : ℕ) (h : bytesAt s m ≡ nameAt d s i) {r : Bool} (q : r ≡ sameBytes b (bytesAt s m)) where
+  module _ {k : ℕ} (u : n ≡ More k) {i : ℕ} (g : i ≡ spanAt isSpace s k) (m : ℕ) (h : bytesAt s m ≡ nameOf (treeAt d s i)) {r : Bool} (q : r ≡ sameBytes b (bytesAt s m)) where
     later-now : t ≡ (r || isAmong b (namesOf (elementsAfter d s k)))
     unfolding namesOf isAmong
     later-now = inv ∙ rw (element-after-more d s j f u, elements-turn d s k, ← g, ← h, ← q)
@@ -97,7 +65,7 @@ module _ (j : Json) (d : ℕ) (s : List ℕ) {r : Found} (e : items j ≡ itemsF
 pub again-full : (b : Bool) {r : Entry} → r ≡ Full → {t : Bool} → t ≡ b → t ≡ againOf b r
 again-full b e q = rw e q
 
-module _ (d : ℕ) (s : List ℕ) (j : ℕ) {i : ℕ} (g : i ≡ spanAt isSpace s j) (m : ℕ) (h : bytesAt s m ≡ nameAt d s i) {a : List ℕ} {hi : ℕ} (b : List ℕ) (r : Entry) (e : Entered s m j a 0 hi b r) {f : Bool} (q : f ≡ againOf (isAmong (bytesAt s m) (namesOf (elementsAfter d s j))) r) where
+module _ (d : ℕ) (s : List ℕ) (j : ℕ) {i : ℕ} (g : i ≡ spanAt isSpace s j) (m : ℕ) (h : bytesAt s m ≡ nameOf (treeAt d s i)) {a : List ℕ} {hi : ℕ} (b : List ℕ) (r : Entry) (e : Entered s m j a 0 hi b r) {f : Bool} (q : f ≡ againOf (isAmong (bytesAt s m) (namesOf (elementsAfter d s j))) r) where
   pub added-twice : f ≡ true → Added d s j a hi b Twice
   added-twice y = record { name = m; stands = rw (← g) h; entry = r; entered = e; told = rw (← q, y) }
 
@@ -111,9 +79,6 @@ module _ (d : ℕ) (s : List ℕ) (j : ℕ) {t : Bool} {a₀ a : List ℕ} {hi :
 
   pub different-not : r ≡ Twice → false ≡ t
   different-not q = different-again s (e .name) j a b hi _ different-now (e .entry) (e .entered) (twice-again _ _ (sym (e .told) ∙ q))
-
-  pub different-long : length b ≡ length a₀
-  different-long = entered-below s (e .name) j a b 0 hi (e .entry) (e .entered) .long ∙ inv .long
 
   module _ {n : ℕ} (q : r ≡ Once n) where
     different-left : Different t s a₀ b n (namesOf (elementsAfter d s j))
@@ -133,7 +98,7 @@ module _ (d : ℕ) (s : List ℕ) (j : ℕ) {t : Bool} {a₀ a : List ℕ} {hi :
       pub different-on : {k : ℕ} → x ≡ More k → Different t s a₀ b n (namesOf (elementsFrom d s k))
       different-on v = rw (element-after-more d s j u v) at different-left
 
-pub ruleset naming = (chained, past-is, element-less, must-none, must-some, may-none, may-some, name-missing, name-string, name-other, later-done, later-wrong, later-found, later-on, again-full, grown-fits, added-twice, added-once, different-none, different-some, different-long, different-not, different-done, different-wrong, different-on)
+pub ruleset naming = (chained, element-less, may-none, may-some, string-found, later-done, later-wrong, later-found, later-on, again-full, grown-fits, added-twice, added-once, different-none, different-some, different-not, different-done, different-wrong, different-on)
 
 -- ## lists by name
 -- a member that must be a string
@@ -182,7 +147,7 @@ module _ (s : List ℕ) (l : Found) (n : ℕ) where
   unfolding listNamed firstWith
   list-none q = rw q
 
-  pub list-some : {at : ℕ} → l ≡ At at → (i : ℕ) → bytesAt s i ≡ nameAt 11 s n → (r : Found) → firstWith (isNamed (bytesAt s i)) (elementsFrom 13 s at) ≡ seen (treeAt 13 s) r → listNamed (itemsFrom 13 s l) (treeAt 11 s n) ≡ seen (treeAt 13 s) r
+  pub list-some : {at : ℕ} → l ≡ At at → (i : ℕ) → bytesAt s i ≡ nameOf (treeAt 11 s n) → (r : Found) → firstWith (isNamed (bytesAt s i)) (elementsFrom 13 s at) ≡ seen (treeAt 13 s) r → listNamed (itemsFrom 13 s l) (treeAt 11 s n) ≡ seen (treeAt 13 s) r
   unfolding listNamed
   list-some q i h r f = rw (q, ← h) f
 

@@ -6,8 +6,8 @@ use Rattle.text.specs.Ascii.{ascii}
 use Rattle.text.specs.Words.{sameBytes}
 use Rattle.flows.specs.declared.Direction.{Direction}
 use Rattle.flows.specs.declared.Direction.the-variants.{FromDevice, ToDevice}
-use Rattle.values.specs.Tree.{Json, null, bool, integer, real, string, array, object, Elements, no-more, element, items, Maybe, none, some, lookup, isArray, isObject}
-use Rattle.values.specs.Rules.{must, may, text, all, firstWith}
+use Rattle.values.specs.Tree.{Json, Elements, no-more, element, items, Maybe, lookup, isArray, isObject}
+use Rattle.values.specs.Rules.{must, may, inside, under, bytesIn, text, all, firstWith}
 use Rattle.header.specs.Asked.{isAmong, obeys}
 use Rattle.header.specs.declared.asked.Asked.the-variants.{Text}
 
@@ -19,23 +19,12 @@ hasStringName j = must (lookup (ascii "name") j) (obeys Text)
 unfoldable pub isNamed : List ℕ → Json → Bool
 isNamed name j = must (lookup (ascii "name") j) (text (λ b. sameBytes b name))
 
--- the bytes of a string; nothing else has any
-abbrev pub bytesOf : Json → List ℕ
-bytesOf null = []
-bytesOf (bool b) = []
-bytesOf (integer n) = []
-bytesOf real = []
-bytesOf (string b) = b
-bytesOf (array es) = []
-bytesOf (object ms) = []
-
-abbrev pub nameOf : Maybe → List ℕ
-nameOf none = []
-nameOf (some j) = bytesOf j
+abbrev pub nameOf : Json → List ℕ
+nameOf j = bytesIn (lookup (ascii "name") j)
 
 unfoldable pub namesOf : Elements → List (List ℕ)
 namesOf no-more = []
-namesOf (element j es) = nameOf (lookup (ascii "name") j) ∷ namesOf es
+namesOf (element j es) = nameOf j ∷ namesOf es
 
 -- "no name twice", "all names different"
 unfoldable pub allDifferent : List (List ℕ) → Bool
@@ -46,15 +35,6 @@ allDifferent (n ∷ ns) = not (isAmong n ns) && allDifferent ns
 unfoldable pub namedArray : Json → Bool
 namedArray j = isArray j && (all hasStringName (items j) && allDifferent (namesOf (items j)))
 
--- the elements of an array that may be missing, and what stands at a path of two members
-abbrev pub itemsIn : Maybe → Elements
-itemsIn none = no-more
-itemsIn (some j) = items j
-
-abbrev pub then : Maybe → (Json → Maybe) → Maybe
-then none f = none
-then (some j) f = f j
-
 -- `outer` (object), then `inner` (a named array), "either absent means none"
 unfoldable pub innerOk : List ℕ → Json → Bool
 innerOk inner o = isObject o && may (lookup inner o) namedArray
@@ -63,7 +43,7 @@ unfoldable pub nestedOk : List ℕ → List ℕ → Json → Bool
 nestedOk outer inner j = may (lookup outer j) (innerOk inner)
 
 unfoldable pub nested : List ℕ → List ℕ → Json → Elements
-nested outer inner j = itemsIn (then (lookup outer j) (lookup inner))
+nested outer inner j = inside (under inner (lookup outer j)) items no-more
 
 -- ## policies
 unfoldable pub policyName : Direction → List ℕ
@@ -78,12 +58,8 @@ unfoldable pub policyOk : Direction → Json → Bool
 policyOk d mud = may (lookup (policyName d) mud) policyShape
 
 -- the elements of a policy's array: each names a list
-abbrev pub orNone : Maybe → (Json → Elements) → Elements
-orNone none f = no-more
-orNone (some j) f = f j
-
 unfoldable pub policyLists : Direction → Json → Elements
-policyLists d mud = orNone (lookup (policyName d) mud) (nested (ascii "access-lists") (ascii "access-list"))
+policyLists d mud = inside (lookup (policyName d) mud) (nested (ascii "access-lists") (ascii "access-list")) no-more
 
 -- ## lists
 -- "In the outermost object `ietf-access-control-list:acls`, if present, is an object; its `acl`, if present, is an array of objects, each with
@@ -108,7 +84,7 @@ listOk list = cond (isIpv4 list) (nestedOk (ascii "aces") (ascii "ace") list) (h
 
 -- "Every named list exists."
 unfoldable pub listNamed : Elements → Json → Maybe
-listNamed lists n = firstWith (isNamed (nameOf (lookup (ascii "name") n))) lists
+listNamed lists n = firstWith (isNamed (nameOf n)) lists
 
 unfoldable pub namedOk : Elements → Json → Bool
 namedOk lists n = must (listNamed lists n) listOk
@@ -131,8 +107,7 @@ unfoldable pub listEntries : Json → List Json
 listEntries list = cond (isIpv4 list) (toList (nested (ascii "aces") (ascii "ace") list)) []
 
 abbrev pub entriesIn : Maybe → List Json
-entriesIn none = []
-entriesIn (some list) = listEntries list
+entriesIn m = inside m listEntries []
 
 -- "lists in the order the policy names them"
 unfoldable pub entriesNamed : Elements → Elements → List Json
@@ -140,9 +115,5 @@ entriesNamed lists no-more = []
 entriesNamed lists (element n ns) =
     entriesIn (listNamed lists n) ++ entriesNamed lists ns
 
-abbrev pub orEmpty : Maybe → (Json → List Json) → List Json
-orEmpty none f = []
-orEmpty (some j) f = f j
-
 unfoldable pub entriesOf : Direction → Json → List Json
-entriesOf d file = orEmpty (lookup (ascii "ietf-mud:mud") file) (λ mud. entriesNamed (listsOf file) (policyLists d mud))
+entriesOf d file = inside (lookup (ascii "ietf-mud:mud") file) (λ mud. entriesNamed (listsOf file) (policyLists d mud)) []

@@ -9,7 +9,6 @@ use values::Found;
 use values::names::enter;
 use values::walk::member;
 use values::walk::next_element;
-ghost use mathlib.Core.Path.{_≡_};
 ghost use Prim.Native.Nat.{_≤_};
 ghost use lib.ListN.{length};
 ghost use Rattle.values.specs.Tree.{treeOf, elementsFrom};

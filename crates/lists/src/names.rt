@@ -3,13 +3,13 @@ use header::asked::Asked;
 use header::asked::must_be;
 use json::Next;
 use json::space::skip;
-use text::bytes::byte_at;
 use values::Entry;
 use values::Found;
 use values::names::enter;
 use values::names::grown;
 use values::plain;
 use values::strings::same_string;
+use values::strings::string_place;
 use values::walk::first_item;
 use values::walk::inner;
 use values::walk::member;
@@ -17,9 +17,8 @@ use values::walk::next_element;
 ghost use mathlib.Core.Path.{_≡_};
 ghost use Prim.Native.Nat.{_≤_};
 ghost use lib.ListN.{length};
-ghost use Rattle.text.specs.Ascii.{ascii};
 ghost use Rattle.values.specs.Decode.{bytesAt};
-ghost use Rattle.values.specs.Tree.{treeAt, lookup, items, elementsAfter};
+ghost use Rattle.values.specs.Tree.{treeAt, items, elementsAfter};
 ghost use Rattle.values.specs.Rules.{all};
 ghost use Rattle.values.specs.Names.{Rising};
 ghost use Rattle.header.specs.Asked.{isAmong};
@@ -28,15 +27,9 @@ ghost use Rattle.lists.specs.Names.{againOf, Added};
 
 // The first character of an element's name; the end of the text, where nothing stands, if it has none.
 pub fn name_of(s: &[u8], at: usize, depth: usize) -> usize
-    ensures { λ r. ⌜ bytesAt (now (s .entry)) r ≡ nameOf (lookup (ascii "name") (treeAt depth (now (s .entry)) at)) ⌝ }
+    ensures { λ r. ⌜ bytesAt (now (s .entry)) r ≡ nameOf (treeAt depth (now (s .entry)) at) ⌝ }
 {
-    let Found::At(p) = member(s, at, depth, b"name") else {
-        return s.len();
-    };
-    if byte_at(s, p) == b'"' {
-        return p + 1;
-    }
-    s.len()
+    string_place(s, member(s, at, depth, b"name"))
 }
 
 // Whether an element after the one at a place has the name whose first character stands at `i`.

@@ -1,5 +1,5 @@
 -- Laws of comparing the names of lines.
-use Prim.Native.Nat.{ℕ, zero, suc, _+_, _-_, _≤_, _<_}
+use Prim.Native.Nat.{ℕ, zero, suc, _+_, _-_, _/_, _%_, _≤_, _<_}
 use native.Mathlib.Omega.{arith}
 use native.Mathlib.Numerals.{add-one}
 use mathlib.Core.Path.{_≡_, refl, sym, ap, _∙_}
@@ -19,11 +19,12 @@ use Rattle.values.specs.declared.Head.the-variants.{Nil, Is}
 use Rattle.values.specs.Decode.{pieceAt, before, bytesAt, firstOf, restOf}
 use Rattle.values.proofs.Decoding.{string-turn}
 use Rattle.values.proofs.Comparing.{first-nil, first-is}
+use Rattle.site.specs.Line.{part}
 use Rattle.site.specs.Url.{endsAuthority, untilEnd, authorityOf}
 use Rattle.site.proofs.Laws.{ends-slash, ends-question, ends-hash}
 use Rattle.site.specs.declared.lines.Kind.{Kind}
-use Rattle.site.specs.declared.lines.SiteLine.{SiteLine}
-use Rattle.naming.specs.Named.{kindNumber, nameIn, names}
+use Rattle.naming.specs.Named.{kindNumber}
+use Rattle.naming.specs.Masks.{namesAt}
 use Rattle.naming.specs.Wanted.{testOf}
 use Rattle.naming.specs.declared.wanted.Wanted.{Wanted}
 use Rattle.naming.specs.declared.wanted.Wanted.the-variants.{Host, Class, Named, Mine, Local, Model, Maker, Kin}
@@ -153,13 +154,13 @@ module _ (text : List ℕ) (w : Wanted) (n : List ℕ) where
         pub wants-kin : w ≡ Kin at → r ≡ sameBytes (authorityOf (bytesAt text at)) a → r ≡ testOf text w n
         wants-kin q h = rw q (h ∙ rw e (same-sym (authorityOf (bytesAt text at)) (authorityOf n)))
 
-module _ (k : Kind) (test : List ℕ → Bool) (site : List ℕ) (l : SiteLine) {a b : ℕ} (e : a ≡ kindNumber (l .kind)) {m : Kind} (q : m ≡ k) (f : b ≡ kindNumber m) where
-  pub names-not : (a ≡ b → ⊥) → false ≡ names k test site l
-  unfolding names
-  names-not n = rw (ne-eqb (kindNumber (l .kind)) (kindNumber k) (λ z. n (e ∙ z ∙ ap kindNumber (sym q) ∙ sym f)))
+module _ (k : Kind) (test : List ℕ → Bool) (site : List ℕ) (w : ℕ) {m : Kind} (q : m ≡ k) {b : ℕ} (f : b ≡ kindNumber m) where
+  pub names-not : (w / 4294967296 ≡ b → ⊥) → false ≡ namesAt k test site w
+  unfolding namesAt
+  names-not n = rw (ne-eqb (w / 4294967296) (kindNumber k) (λ z. n (z ∙ ap kindNumber (sym q) ∙ sym f)))
 
-  pub names-is : a ≡ b → {r : Bool} → r ≡ test (nameIn site l) → r ≡ names k test site l
-  unfolding names
-  names-is y h = rw (eq-eqb (kindNumber (l .kind)) (kindNumber k) (sym e ∙ y ∙ f ∙ ap kindNumber q)) h
+  pub names-is : w / 4294967296 ≡ b → {r : Bool} → r ≡ test (part (w / 65536 % 65536) (w % 65536) site) → r ≡ namesAt k test site w
+  unfolding namesAt
+  names-is y h = rw (eq-eqb (w / 4294967296) (kindNumber k) (y ∙ f ∙ ap kindNumber q)) h
 
 pub ruleset wanting = (needs, ends-slash, ends-question, ends-hash, authority-none, authority-is, authority-in, scheme-start, scheme-more, scheme-end, authority-from, authority-short, authority-end, authority-stop, authority-last, authority-not, authority-more, wants-local, wants-named, wants-host, wants-class, wants-mine, wants-model, wants-maker, wants-kin, names-not, names-is)

@@ -9,7 +9,7 @@ use lib.Dec.{ltb}
 use borrow.Author.Tests.{eq-eqb, ltb-false}
 use Rattle.text.specs.Walk.{thenWalk, walk}
 use Rattle.text.proofs.Walk.{walk-turn, walk-end}
-use Rattle.text.proofs.Tests.{by-test, clash, or-right}
+use Rattle.text.proofs.Tests.{by-test, clash, or-left, or-right}
 use Rattle.site.specs.Line.{lineAt}
 use Rattle.site.specs.Site.{itemOf, lines, lineFeeds, judged}
 use Rattle.site.specs.declared.lines.SiteLine.{SiteLine}
@@ -78,18 +78,21 @@ lines-feeds s (suc k) at = step (lineAt s at) (line-sound s at) (λ j. lines-fee
     step Malformed h g = omega arith
     step (Line l) h g = omega (arith, feeds-line s at l h, g (l .after))
 
--- A SOUND SITE TABLE HAS AT MOST 64 LINES
-pub lines-few : (site : List ℕ) → judged site ≡ Sound → length (lines site 0) ≤ 64
-unfolding judged lines
-lines-few site e =
-    by-test (ltb 8192 (length site) || ltb 64 (lineFeeds site))
-    (λ t. absurd (long-not (rw t at e)))
-    (λ t. few (lines-feeds site (suc (length site)) 0) t)
-  where
-    long-not : TooLong ≡ Sound → ⊥
-    long-not q = let z : _≡_ {A = ℕ} 0 1 = cc in omega arith
+-- A SOUND SITE TABLE HAS AT MOST 8,192 BYTES AND 64 LINES
+module _ (site : List ℕ) (e : judged site ≡ Sound) where
+  not-long : (ltb 8192 (length site) || ltb 64 (lineFeeds site)) ≡ false
+  unfolding judged
+  not-long = by-test (ltb 8192 (length site) || ltb 64 (lineFeeds site)) (λ t. absurd (differ (rw t at e))) (λ t. t)
+    where
+      differ : TooLong ≡ Sound → ⊥
+      differ q = let z : _≡_ {A = ℕ} 0 1 = cc in omega arith
 
-    few : {n : ℕ} → n ≤ lineFeeds site → (ltb 8192 (length site) || ltb 64 (lineFeeds site)) ≡ false → n ≤ 64
-    few {n} h t = by-test (ltb 64 (lineFeeds site))
-        (λ y. clash (or-right (ltb 8192 (length site)) _ y) t)
-        (λ y. omega (arith, ltb-false 64 (lineFeeds site) y))
+  pub site-short : length site ≤ 8192
+  site-short = by-test (ltb 8192 (length site)) (λ y. clash (or-left (ltb 8192 (length site)) _ y) not-long) (λ y. omega (arith, ltb-false 8192 (length site) y))
+
+  pub lines-few : length (lines site 0) ≤ 64
+  unfolding lines
+  lines-few =
+      by-test (ltb 64 (lineFeeds site))
+      (λ y. clash (or-right (ltb 8192 (length site)) _ y) not-long)
+      (λ y. omega (arith, lines-feeds site (suc (length site)) 0, ltb-false 64 (lineFeeds site) y))

@@ -8,83 +8,138 @@ use native.Mathlib.Omega.{arith}
 use mathlib.Core.Path.{_≡_, refl, sym, ap, _∙_}
 use mathlib.Core.Bool.{Bool, true, false, not, cond}
 use mathlib.Core.List.{List, [], _∷_, _++_, map, append-nil, append-assoc}
-use lib.ListN.{length, take, drop, set, length-set, take-append-drop}
-use lib.Seq.{take-suc-set, drop-set-lt}
+use lib.ListN.{length, take, drop, getD, set, length-set, take-append-drop, drop-of-length-le}
+use lib.Seq.{take-suc-set, drop-set-lt, drop-nil, drop-drop}
 use borrow.Author.Needs.{needs}
 use borrow.Author.Tests.{not-true, not-false}
 use Rattle.text.proofs.Tests.{by-test}
 use Rattle.flows.specs.Rules.{inSome}
 use Rattle.builder.specs.Encoding.{rangeIf, namedBy}
 use Rattle.site.specs.Line.{lineAt}
-use Rattle.site.specs.Site.{lines}
+use Rattle.site.specs.Site.{lines, judged}
+use Rattle.site.specs.declared.table.Judged.the-variants.{Sound}
+use Rattle.site.specs.declared.lines.Kind.{Kind}
+use Rattle.site.specs.declared.lines.Kind.the-variants.{Host, Class, Mine, Local, Thing}
 use Rattle.site.specs.declared.lines.SiteLine.{SiteLine}
 use Rattle.site.specs.declared.lines.Found.{Found}
 use Rattle.site.specs.declared.lines.Found.the-variants.{Line, Malformed}
-use Rattle.site.proofs.Laws.{stop-less}
-use Rattle.naming.specs.Named.{inNamed}
-use Rattle.naming.specs.Masks.{wordsTo, networkWords, maskOf, namedMask}
-use Rattle.naming.proofs.Lines.{lines-end, lines-turn, line-parts, Each, lines-each}
+use Rattle.naming.specs.Named.{kindNumber, names, inNamed}
+use Rattle.naming.specs.Masks.{networkWord, placeWord, wordsTo, networkWords, PlacesOf, namesAt, maskOf, namedMask}
+use Rattle.naming.proofs.Lines.{lines-end, lines-turn, line-parts, Each, lines-each, lines-few, site-short}
 
 -- ## the words: j of them are written, and the lines from `at` on are left
-pub record Loading (site before₀ : List ℕ) (at j : ℕ) (work : List ℕ) : Type 0 where
+pub record Loading (word : SiteLine → ℕ) (site before₀ : List ℕ) (at j : ℕ) (words : List ℕ) : Type 0 where
   pub room : j ≤ 64
-  pub long : length work ≡ length before₀
-  pub done : networkWords site ≡ take j work ++ wordsTo (64 - j) (lines site at)
-  pub left : drop j work ≡ drop j before₀
+  pub long : length words ≡ length before₀
+  pub done : wordsTo word 64 (lines site 0) ≡ take j words ++ wordsTo word (64 - j) (lines site at)
+  pub left : drop j words ≡ drop j before₀
 
-pub loading-start : (site work : List ℕ) → Loading site work 0 0 work
-unfolding networkWords
-loading-start site work = record { room = omega arith; long = refl; done = refl; left = refl }
+pub loading-start : (word : SiteLine → ℕ) (site words : List ℕ) → Loading word site words 0 0 words
+loading-start word site words = record { room = omega arith; long = refl; done = refl; left = refl }
 
-module _ (site before₀ : List ℕ) (at j : ℕ) (work : List ℕ) (c : Loading site before₀ at j work) where
-  pub loading-end : 64 ≤ j → work ≡ networkWords site ++ drop 64 before₀
+module _ {word : SiteLine → ℕ} {site before₀ : List ℕ} {at j : ℕ} {words : List ℕ} (c : Loading word site before₀ at j words) where
+  loaded : 64 ≤ j → words ≡ wordsTo word 64 (lines site 0) ++ drop 64 before₀
   unfolding wordsTo
-  loading-end h =
+  loaded h =
       let z : j ≡ 64 = omega (arith, c .room) in
-      let d : networkWords site ≡ take 64 work = rw z at (c .done) ∙ append-nil (take 64 work) in
-      let l : drop 64 work ≡ drop 64 before₀ = rw z at (c .left) in
-      sym (rw (d, ← l) (take-append-drop 64 work))
+      let d : wordsTo word 64 (lines site 0) ≡ take 64 words = rw z at (c .done) ∙ append-nil (take 64 words) in
+      let l : drop 64 words ≡ drop 64 before₀ = rw z at (c .left) in
+      sym (rw (d, ← l) (take-append-drop 64 words))
 
   module _ (h : j < 64) (k : 64 ≤ length before₀) where
-    pub loading-inside : j < length work
+    pub loading-inside : j < length words
     loading-inside = omega (arith, c .long)
 
-    put : (w after : ℕ) → wordsTo (suc (63 - j)) (lines site at) ≡ w ∷ wordsTo (63 - j) (lines site after) → Loading site before₀ after (j + 1) (set work j w)
+    put : (w after : ℕ) → wordsTo word (suc (63 - j)) (lines site at) ≡ w ∷ wordsTo word (63 - j) (lines site after) → Loading word site before₀ after (j + 1) (set words j w)
     put w after e =
         let y : 64 - j ≡ suc (63 - j) = omega arith in
         let z : 64 - suc j ≡ 63 - j = omega arith in
-        let d : networkWords site ≡ take j work ++ (w ∷ wordsTo (63 - j) (lines site after)) = c .done ∙ ap (λ l. take j work ++ l) (ap (λ n. wordsTo n (lines site at)) y ∙ e) in
-        let t : take (suc j) (set work j w) ≡ take j work ++ (w ∷ []) = take-suc-set work j w loading-inside in
-        let u : drop (suc j) (set work j w) ≡ drop (suc j) work = drop-set-lt (suc j) work j w (omega arith) in
+        let d : wordsTo word 64 (lines site 0) ≡ take j words ++ (w ∷ wordsTo word (63 - j) (lines site after)) = c .done ∙ ap (λ l. take j words ++ l) (ap (λ n. wordsTo word n (lines site at)) y ∙ e) in
+        let t : take (suc j) (set words j w) ≡ take j words ++ (w ∷ []) = take-suc-set words j w loading-inside in
+        let u : drop (suc j) (set words j w) ≡ drop (suc j) words = drop-set-lt (suc j) words j w (omega arith) in
+        let v : drop (suc j) words ≡ drop (suc j) before₀ = rw (← add-one j) (sym (drop-drop 1 j words) ∙ ap (drop 1) (c .left) ∙ drop-drop 1 j before₀) in
         rw (add-one j) (record {
           room = omega arith;
-          long = length-set work j w ∙ c .long;
-          done = d ∙ (rw (t, z) (sym (append-assoc (take j work) (w ∷ []) (wordsTo (63 - j) (lines site after)))));
-          left = u ∙ drop-more j work before₀ (c .left);
+          long = length-set words j w ∙ c .long;
+          done = d ∙ (rw (t, z) (sym (append-assoc (take j words) (w ∷ []) (wordsTo word (63 - j) (lines site after)))));
+          left = u ∙ v;
         })
-      where
-        drop-more : (n : ℕ) (a b : List ℕ) → drop n a ≡ drop n b → drop (suc n) a ≡ drop (suc n) b
-        drop-more n a b q = drop-suc n a ∙ ap (drop 1) q ∙ sym (drop-suc n b)
-          where
-            drop-suc : (i : ℕ) (l : List ℕ) → drop (suc i) l ≡ drop 1 (drop i l)
-            drop-suc zero l = refl
-            drop-suc (suc i) [] = refl
-            drop-suc (suc i) (x ∷ l) = drop-suc i l
 
     module _ {r : Found} (e : r ≡ lineAt site at) where
-      pub loading-none : r ≡ Malformed → Loading site before₀ at (j + 1) (set work j 0)
+      pub loading-none : r ≡ Malformed → Loading word site before₀ at (j + 1) (set words j 0)
       unfolding wordsTo
       loading-none q = put 0 at (rw (lines-end site at e q))
 
-      pub loading-line : {l : SiteLine} → r ≡ Line l → {w : ℕ} → w ≡ l .low * 4294967296 + l .high → Loading site before₀ (l .after) (j + 1) (set work j w)
+      pub loading-line : {l : SiteLine} → r ≡ Line l → {w : ℕ} → w ≡ word l → Loading word site before₀ (l .after) (j + 1) (set words j w)
       unfolding wordsTo
       loading-line {l} q {w} f = put w (l .after) (rw (lines-turn site at e q, f))
 
--- ## the masks: the lines before `at` give m, and there are j of them
-pub record Masking (named : SiteLine → Bool) (site : List ℕ) (at j m : ℕ) : Type 0 where
-  pub room : j + length (lines site at) ≤ 64
+pub room-for-all : (words : List ℕ) → length words ≡ 64 → 64 ≤ length words
+room-for-all words e = omega arith
+
+module _ {site before₀ : List ℕ} {at j : ℕ} {words : List ℕ} where
+  pub networks-loaded : Loading networkWord site before₀ at j words → 64 ≤ j → words ≡ networkWords site ++ drop 64 before₀
+  unfolding networkWords
+  networks-loaded c h = loaded c h
+
+  pub places-loaded : Loading placeWord site before₀ at j words → 64 ≤ j → length before₀ ≡ 64 → judged site ≡ Sound → PlacesOf site words
+  unfolding PlacesOf
+  places-loaded c h k s =
+      let o : length before₀ ≤ 64 = omega arith in
+      (s, loaded c h ∙ rw (drop-of-length-le before₀ o) (append-nil (wordsTo placeWord 64 (lines site 0))))
+
+module _ (site : List ℕ) (at : ℕ) (h : judged site ≡ Sound) {r : Found} (e : r ≡ lineAt site at) {l : SiteLine} (q : r ≡ Line l) where
+  pub line-name : l .name ≤ 8192
+  line-name = omega (arith, line-parts site at e q .2, line-parts site at e q .3, site-short site h)
+
+  pub line-end : l .end ≤ 8192
+  line-end = omega (arith, line-parts site at e q .3, site-short site h)
+
+-- ## a line by its word
+abbrev Inside : List ℕ → SiteLine → Type 0
+Inside site l = (l .name ≤ l .end) × (l .end ≤ length site)
+
+module _ (site : List ℕ) (short : length site ≤ 8192) (l : SiteLine) (h : Inside site l) where
+  place-kind : placeWord l / 4294967296 ≡ kindNumber (l .kind)
+  place-kind = omega (arith, h .0, h .1)
+
+  place-name : placeWord l / 65536 % 65536 ≡ l .name
+  place-name = omega (arith, h .0, h .1)
+
+  place-end : placeWord l % 65536 ≡ l .end
+  place-end = omega (arith, h .0, h .1)
+
+  place-names : (kind : Kind) (test : List ℕ → Bool) → namesAt kind test site (placeWord l) ≡ names kind test site l
+  unfolding namesAt names
+  place-names kind test = rw (place-kind, place-name, place-end)
+
+abbrev firstWord : (SiteLine → ℕ) → List SiteLine → ℕ
+firstWord word [] = 0
+firstWord word (l ∷ ls) = word l
+
+word-at : (word : SiteLine → ℕ) (k j : ℕ) (ls : List SiteLine) → j < k → getD (wordsTo word k ls) j 0 ≡ firstWord word (drop j ls)
+unfolding wordsTo
+word-at word zero j ls h = absurd (omega arith)
+word-at word (suc k) zero [] h = refl
+word-at word (suc k) zero (l ∷ ls) h = refl
+word-at word (suc k) (suc j) [] h = word-at word k j [] (omega arith) ∙ ap (firstWord word) (drop-nil j)
+word-at word (suc k) (suc j) (l ∷ ls) h = word-at word k j ls (omega arith)
+
+pub words-long : (word : SiteLine → ℕ) (k : ℕ) (ls : List SiteLine) → length (wordsTo word k ls) ≡ k
+unfolding wordsTo
+words-long word zero ls = refl
+words-long word (suc k) [] = ap suc (words-long word k [])
+words-long word (suc k) (l ∷ ls) = ap suc (words-long word k ls)
+
+each-drop : (P : SiteLine → Type 0) (j : ℕ) (ls : List SiteLine) → Each P ls → Each P (drop j ls)
+each-drop P zero ls e = e
+each-drop P (suc j) [] e = e
+each-drop P (suc j) (l ∷ ls) e = each-drop P j ls (e .1)
+
+-- ## the masks: the first j lines give m
+pub record Masking (named : SiteLine → Bool) (site : List ℕ) (j m : ℕ) : Type 0 where
   pub small : m < 2 ^ j
-  pub whole : namedMask named site ≡ m + 2 ^ j * maskOf (map named (lines site at))
+  pub whole : namedMask named site ≡ m + 2 ^ j * maskOf (map named (drop j (lines site 0)))
 
 module _ (on : Bool) (j : ℕ) where
   pub bit-off : not on ≡ true → 0 ≡ cond on (2 ^ j) 0
@@ -96,20 +151,58 @@ module _ (on : Bool) (j : ℕ) where
       let s : 2 ^ j < 18446744073709551616 = omega arith in
       rw (not-false on n, one-mul (2 ^ j)) (mod-eq-of-lt s)
 
-pub masking-start : (named : SiteLine → Bool) (site : List ℕ) → length (lines site 0) ≤ 64 → Masking named site 0 0 0
+pub masking-start : (named : SiteLine → Bool) (site : List ℕ) → Masking named site 0 0
 unfolding namedMask
-masking-start named site h = record { room = omega arith; small = omega arith; whole = sym (zero-add _ ∙ one-mul _) }
+masking-start named site = record { small = omega arith; whole = sym (zero-add _ ∙ one-mul _) }
 
-module _ (named : SiteLine → Bool) (site : List ℕ) (at j m : ℕ) (c : Masking named site at j m) {r : Found} (e : r ≡ lineAt site at) where
-  pub masking-end : r ≡ Malformed → m ≡ namedMask named site
+module _ (named : SiteLine → Bool) (site : List ℕ) (j m : ℕ) (c : Masking named site j m) where
+  none-left : drop j (lines site 0) ≡ [] → m ≡ namedMask named site
   unfolding maskOf
-  masking-end q = sym (c .whole ∙ rw (lines-end site at e q) (ap (λ k. m + k) (mul-zero (2 ^ j)) ∙ add-zero m))
+  none-left q = sym (c .whole ∙ rw q (ap (λ k. m + k) (mul-zero (2 ^ j)) ∙ add-zero m))
 
-  module _ {l : SiteLine} (q : r ≡ Line l) where
-    pub masking-room : j < 64
-    masking-room = omega (arith, c .room, ap length (lines-turn site at e q))
+  module _ (places : List ℕ) (p : PlacesOf site places) where
+    pub masking-end : 64 ≤ j → m ≡ namedMask named site
+    unfolding PlacesOf
+    masking-end h = let l : length (lines site 0) ≤ j = omega (arith, lines-few site (p .0)) in none-left (drop-of-length-le (lines site 0) l)
 
-    module _ {b : Bool} (f : b ≡ named l) {x : ℕ} (g : x ≡ cond b (2 ^ j) 0) where
+    pub masking-inside : j < 64 → j < length places
+    unfolding PlacesOf
+    masking-inside h = omega (arith, ap length (p .1) ∙ words-long placeWord 64 (lines site 0))
+
+-- word j is for line j, if there are so many
+module _ (site places : List ℕ) (p : PlacesOf site places) (j : ℕ) (h : j < 64) {w : ℕ} (e : w ≡ getD places j 0) where
+  by-line : {A : Type 0} → (drop j (lines site 0) ≡ [] → w ≡ 0 → A) → ((l : SiteLine) (ls : List SiteLine) → drop j (lines site 0) ≡ l ∷ ls → w ≡ placeWord l → Inside site l → A) → A
+  unfolding PlacesOf
+  by-line {A} none some =
+      go (drop j (lines site 0)) refl (each-drop (Inside site) j (lines site 0) (lines-each (Inside site) site (λ at l s. (s .2, s .3)) 0))
+      (e ∙ ap (λ (a : List ℕ). getD a j 0) (p .1) ∙ word-at placeWord 64 j (lines site 0) h)
+    where
+      go : (ls : List SiteLine) → drop j (lines site 0) ≡ ls → Each (Inside site) ls → w ≡ firstWord placeWord ls → A
+      go [] q s f = none q f
+      go (l ∷ ls) q s f = some l ls q f (s .0)
+
+  short : length site ≤ 8192
+  unfolding PlacesOf
+  short = site-short site (p .0)
+
+  pub place-ordered : w / 65536 % 65536 ≤ w % 65536
+  place-ordered = by-line (λ q z. omega arith) (λ l ls q f s. rw (f, place-name site short l s, place-end site short l s) (s .0))
+
+  pub place-inside : w % 65536 ≤ length site
+  place-inside = by-line (λ q z. omega arith) (λ l ls q f s. rw (f, place-end site short l s) (s .1))
+
+  module _ (kind : Kind) (test : List ℕ → Bool) (m : ℕ) (c : Masking (names kind test site) site j m) where
+    kind-above : (k : Kind) → 0 < kindNumber k
+    kind-above Host = omega arith
+    kind-above Class = omega arith
+    kind-above Mine = omega arith
+    kind-above Local = omega arith
+    kind-above Thing = omega arith
+
+    pub masking-stop : w ≡ 0 → m ≡ namedMask (names kind test site) site
+    masking-stop z = by-line (λ q y. none-left (names kind test site) site j m c q) (λ l ls q f s. absurd (omega (arith, kind-above (l .kind))))
+
+    module _ {b : Bool} (f : b ≡ namesAt kind test site w) {x : ℕ} (g : x ≡ cond b (2 ^ j) 0) where
       bit-below : x ≤ 2 ^ j
       bit-below = rw g (by-test b (λ y. rw y (omega arith)) (λ y. rw y (omega arith)))
 
@@ -118,16 +211,15 @@ module _ (named : SiteLine → Bool) (site : List ℕ) (at j m : ℕ) (c : Maski
 
       pub masking-fits : Fits w64 (m + x)
       masking-fits =
-          let p : 2 ^ suc j ≤ 18446744073709551616 = pow-le-pow-right (omega arith) {i = suc j} {j = 64} masking-room in
+          let q : 2 ^ suc j ≤ 18446744073709551616 = pow-le-pow-right (omega arith) {i = suc j} {j = 64} h in
           omega (arith, sum-below)
 
-      pub masking-more : Masking named site (l .after) (j + 1) (m + x)
+      pub masking-more : (w ≡ 0 → ⊥) → Masking (names kind test site) site (j + 1) (m + x)
       unfolding maskOf
-      masking-more = rw (add-one j) (record {
-        room = omega (arith, c .room, ap length (lines-turn site at e q));
-        small = sum-below;
-        whole = c .whole ∙ rw (lines-turn site at e q, ← f, two-pow-succ j, g) (turn b (2 ^ j) (maskOf (map named (lines site (l .after)))));
-      })
+      masking-more n = by-line (λ q z. absurd (n z)) (λ l ls q y s.
+          let a : b ≡ names kind test site l = f ∙ ap (namesAt kind test site) y ∙ place-names site short l s kind test in
+          let d : drop (j + 1) (lines site 0) ≡ ls = sym (drop-drop 1 j (lines site 0)) ∙ ap (drop 1) q in
+          record { small = rw (add-one j) sum-below; whole = c .whole ∙ rw (q, d, ← a, add-one j, two-pow-succ j, g) (turn b (2 ^ j) (maskOf (map (names kind test site) ls))) })
         where
           turn : (b : Bool) (p k : ℕ) → m + p * (cond b 1 0 + 2 * k) ≡ m + cond b p 0 + (p + p) * k
           turn b p k =
@@ -137,16 +229,10 @@ module _ (named : SiteLine → Bool) (site : List ℕ) (at j m : ℕ) (c : Maski
               (λ y. rw y (let u : p * (1 + 2 * k) ≡ p * 1 + p * (2 * k) = mul-add p 1 (2 * k) in let v : p * 1 ≡ p = mul-one p in omega arith))
               (λ y. rw y (let u : p * (0 + 2 * k) ≡ p * (2 * k) = ap (λ n. p * n) (zero-add (2 * k)) in omega arith))
 
-pub line-name : (s : List ℕ) (at : ℕ) {r : Found} → r ≡ lineAt s at → {l : SiteLine} → r ≡ Line l → l .name ≤ l .end
-line-name s at e q = line-parts s at e q .2
-
-pub line-end : (s : List ℕ) (at : ℕ) {r : Found} → r ≡ lineAt s at → {l : SiteLine} → r ≡ Line l → l .end ≤ length s
-line-end s at e q = line-parts s at e q .3
-
-pub ruleset masking = (needs, stop-less, line-name, line-end, loading-start, loading-end, loading-inside, loading-none, loading-line, bit-off, bit-on, masking-start, masking-end, masking-room, masking-fits, masking-more)
+pub ruleset masking = (needs, line-name, line-end, loading-start, loading-inside, loading-none, loading-line, room-for-all, networks-loaded, places-loaded, bit-off, bit-on, masking-start, masking-end, masking-inside, place-ordered, place-inside, masking-stop, masking-fits, masking-more)
 
 -- ## what a mask says
-no-names : (k : ℕ) → namedBy 0 (wordsTo k []) ≡ []
+no-names : (k : ℕ) → namedBy 0 (wordsTo networkWord k []) ≡ []
 unfolding namedBy wordsTo rangeIf
 no-names zero = refl
 no-names (suc k) = no-names k
@@ -158,7 +244,7 @@ module _ (low high : ℕ) (h : high < 4294967296) where
   high-is : (low * 4294967296 + high) % 4294967296 ≡ high
   high-is = omega arith
 
-holds : (named : SiteLine → Bool) (a k : ℕ) (ls : List SiteLine) → length ls ≤ k → Each (λ l. l .high < 4294967296) ls → inSome (namedBy (maskOf (map named ls)) (wordsTo k ls)) a ≡ inNamed named ls a
+holds : (named : SiteLine → Bool) (a k : ℕ) (ls : List SiteLine) → length ls ≤ k → Each (λ l. l .high < 4294967296) ls → inSome (namedBy (maskOf (map named ls)) (wordsTo networkWord k ls)) a ≡ inNamed named ls a
 unfolding inSome namedBy maskOf wordsTo inNamed rangeIf
 holds named a k [] h s = rw (no-names k)
 holds named a zero (l ∷ ls) h s = absurd (omega arith)

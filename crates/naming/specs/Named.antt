@@ -11,12 +11,13 @@ use Rattle.site.specs.declared.lines.Kind.{Kind}
 use Rattle.site.specs.declared.lines.Kind.the-variants.{Host, Class, Mine, Local, Thing}
 use Rattle.site.specs.declared.lines.SiteLine.{SiteLine}
 
+-- from 1 on: 0 is for no line
 abbrev pub kindNumber : Kind → ℕ
-kindNumber Host = 0
-kindNumber Class = 1
-kindNumber Mine = 2
-kindNumber Local = 3
-kindNumber Thing = 4
+kindNumber Host = 1
+kindNumber Class = 2
+kindNumber Mine = 3
+kindNumber Local = 4
+kindNumber Thing = 5
 
 abbrev pub nameIn : List ℕ → SiteLine → List ℕ
 nameIn site l = part (l .name) (l .end) site

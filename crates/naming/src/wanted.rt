@@ -1,6 +1,5 @@
 // Which lines of the site are wanted.
 use site::lines::Kind;
-use site::lines::SiteLine;
 use values::Head;
 use values::Piece;
 use values::decode::first;
@@ -9,12 +8,13 @@ use values::decode::rest;
 use values::decode::wide;
 use values::strings::string_is;
 ghost use mathlib.Core.Path.{_≡_};
-ghost use Prim.Native.Nat.{_≤_};
+ghost use Prim.Native.Nat.{_≤_, _/_, _%_};
 ghost use lib.ListN.{length, drop};
 ghost use Rattle.text.specs.Words.{sameBytes};
 ghost use Rattle.values.specs.Decode.{bytesAt, before};
 ghost use Rattle.site.specs.Url.{endsAuthority, authorityOf};
-ghost use Rattle.naming.specs.Named.{kindNumber, names};
+ghost use Rattle.naming.specs.Named.{kindNumber};
+ghost use Rattle.naming.specs.Masks.{namesAt};
 ghost use Rattle.naming.specs.Wanted.{kindOf, testOf};
 
 // By a string of the file (the place of its first character): a host, a class, a thing by its model or by its maker. By the file's
@@ -30,15 +30,16 @@ pub enum Wanted {
     Kin(usize),
 }
 
-fn kind_number(kind: Kind) -> usize
+pub fn kind_number(kind: Kind) -> u64
     ensures { λ r. ⌜ r ≡ kindNumber kind ⌝ }
+    ensures { λ r. ⌜ r ≤ 5 ⌝ }
 {
     match kind {
-        Kind::Host => 0,
-        Kind::Class => 1,
-        Kind::Mine => 2,
-        Kind::Local => 3,
-        Kind::Thing => 4,
+        Kind::Host => 1,
+        Kind::Class => 2,
+        Kind::Mine => 3,
+        Kind::Local => 4,
+        Kind::Thing => 5,
     }
 }
 
@@ -137,15 +138,15 @@ fn passes(text: &[u8], wanted: Wanted, name: &[u8]) -> bool
     }
 }
 
-pub fn is_wanted(text: &[u8], wanted: Wanted, site: &[u8], line: SiteLine) -> bool
-    requires { ⌜ (line .name ≤ line .end) × (line .end ≤ length (now site)) ⌝ }
-    ensures { λ r. ⌜ r ≡ names (kindOf wanted) (testOf (now (text .entry)) wanted) (now (site .entry)) line ⌝ }
+// Whether the line of a word is wanted. Kinds are compared before names.
+pub fn is_wanted(text: &[u8], wanted: Wanted, site: &[u8], w: u64) -> bool
+    requires { ⌜ (w / 65536 % 65536 ≤ w % 65536) × (w % 65536 ≤ length (now site)) ⌝ }
+    ensures { λ r. ⌜ r ≡ namesAt (kindOf wanted) (testOf (now (text .entry)) wanted) (now (site .entry)) w ⌝ }
 {
-    let kind = line.kind;
-    if kind_number(kind) != kind_number(kind_of(wanted)) {
+    if w / 4294967296 != kind_number(kind_of(wanted)) {
         return false;
     }
-    let name = line.name;
-    let end = line.end;
+    let name = (w / 65536 % 65536) as usize;
+    let end = (w % 65536) as usize;
     passes(text, wanted, &site[name..end])
 }

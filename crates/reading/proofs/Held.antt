@@ -1,15 +1,14 @@
 -- The words that are left in the work buffer are the rules of the file.
-use Prim.Native.Nat.{ℕ, zero, suc, _+_, _-_, _*_, _≤_, _<_}
+use Prim.Native.Nat.{ℕ, zero, suc, _+_, _*_, _≤_}
 use native.Mathlib.Nat.{add-zero, add-suc}
 use native.Mathlib.Numerals.{add-one}
 use native.Mathlib.Omega.{arith}
 use mathlib.Core.Path.{_≡_, refl, sym, ap, ap₂, _∙_, subst}
-use mathlib.Core.Bool.{Bool, true, false, cond}
 use mathlib.Core.List.{List, [], _∷_, _++_, map, append-assoc, append-nil}
 use lib.Dec.{ltb}
 use lib.ListN.{length, take, drop, set, length-append, length-drop, length-map, take-append-drop}
 use lib.Seq.{sets, sets-eq, length-sets, take-append-seam, take-set-le, take-set-lt, drop-set-add, length-take-le}
-use borrow.Author.Tests.{lt-ltb, le-ltb}
+use borrow.Author.Tests.{lt-ltb}
 use Rattle.text.proofs.Tests.{by-test}
 use Rattle.flows.specs.Rules.{Rule, rule}
 use Rattle.flows.specs.declared.Direction.{Direction}
@@ -17,9 +16,9 @@ use Rattle.flows.specs.declared.Direction.the-variants.{FromDevice, ToDevice}
 use Rattle.values.specs.Tree.{Json}
 use Rattle.lists.specs.Lists.{entriesOf}
 use Rattle.site.specs.Site.{lines}
-use Rattle.site.specs.declared.lines.SiteLine.{SiteLine}
-use Rattle.naming.specs.Masks.{wordsTo, networkWords}
-use Rattle.builder.specs.Encoding.{boxOf, accepting, rulesFrom, ruled, rulesOf}
+use Rattle.naming.specs.Masks.{networkWord, networkWords}
+use Rattle.naming.proofs.Masking.{words-long}
+use Rattle.builder.specs.Encoding.{boxOf, accepting, rulesFrom, rulesOf}
 use Rattle.rules.specs.Meaning.{urlOf}
 use Rattle.rules.specs.Read.{entriesRead}
 use Rattle.rules.specs.Rows.{ruleWords, rowOf}
@@ -133,15 +132,9 @@ module _ (d : Direction) (site url : List ℕ) where
       counted es (see d e t) (omega arith) ∙ omega arith
 
 -- ## the networks in front
-words-long : (k : ℕ) (ls : List SiteLine) → length (wordsTo k ls) ≡ k
-unfolding wordsTo
-words-long zero ls = refl
-words-long (suc k) [] = ap suc (words-long k [])
-words-long (suc k) (l ∷ ls) = ap suc (words-long k ls)
-
 pub networks-long : (site : List ℕ) → length (networkWords site) ≡ 64
 unfolding networkWords
-networks-long site = words-long 64 (lines site 0)
+networks-long site = words-long networkWord 64 (lines site 0)
 
 put-front : (n k : ℕ) (rows : List (List ℕ)) (w : List ℕ) → n ≤ 169 → take n (putAll k rows w) ≡ take n w
 unfolding putAll putAt

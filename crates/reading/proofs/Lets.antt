@@ -1,18 +1,18 @@
 -- First match over the rules of a file lets through exactly what the file does.
-use Prim.Native.Nat.{ℕ, zero, suc, _+_, _≤_, _<_}
+use Prim.Native.Nat.{ℕ, suc, _+_, _≤_, _<_}
 use native.Mathlib.Nat.{add-zero}
 use native.Mathlib.Omega.{arith}
-use mathlib.Core.Path.{_≡_, refl, sym, ap, ap₂, _∙_, subst}
+use mathlib.Core.Path.{_≡_, refl, sym, ap, _∙_, subst}
 use mathlib.Core.Bool.{Bool, true, false, cond, _&&_, _||_, and-true}
 use mathlib.Core.List.{List, [], _∷_, _++_, map, append-nil}
 use lib.Dec.{ltb, eqb}
-use lib.ListN.{length, getD}
-use borrow.Author.Tests.{ltb-true, ltb-false, lt-ltb, le-ltb, eqb-true, ne-eqb}
+use lib.ListN.{length}
+use borrow.Author.Tests.{ltb-true, ltb-false, le-ltb}
 use Rattle.text.specs.Ascii.{ascii}
 use Rattle.text.proofs.Tests.{by-test, clash, and-left, and-right, split}
 use Rattle.flows.specs.Table.{Point, within}
 use Rattle.flows.specs.Flow.{widths, isFlow}
-use Rattle.flows.specs.Rules.{Rule, rule, Said, silent, said, inBox, firstMatch, orDrop, accepts, letThrough}
+use Rattle.flows.specs.Rules.{Rule, Said, silent, said, inBox, firstMatch, orDrop, accepts, letThrough}
 use Rattle.flows.specs.Numbers.{directionNumber}
 use Rattle.flows.specs.declared.Direction.{Direction}
 use Rattle.flows.specs.declared.Direction.the-variants.{FromDevice, ToDevice}

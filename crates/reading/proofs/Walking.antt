@@ -1,11 +1,11 @@
 -- Laws of the walk over entries.
 use Prim.Native.Nat.{ℕ, _+_, _*_, _≤_, _<_}
 use mathlib.Core.Path.{_≡_, refl, sym, ap, ap₂, _∙_, subst}
-use mathlib.Core.Bool.{Bool, true, false, not, cond, _&&_}
-use mathlib.Core.List.{List, [], _∷_, _++_, map}
+use mathlib.Core.Bool.{Bool, true, false, not, _&&_}
+use mathlib.Core.List.{List, [], _∷_, _++_}
 use lib.Dec.{ltb}
 use lib.ListN.{length}
-use lib.Seq.{sets, length-sets}
+use lib.Seq.{length-sets}
 use borrow.Author.Needs.{needs}
 use borrow.Author.Tests.{lt-ltb, le-ltb, not-true, not-false}
 use Rattle.text.specs.Ascii.{ascii}
@@ -17,9 +17,9 @@ use Rattle.json.specs.declared.Next.the-variants.{Done, More, Wrong}
 use Rattle.json.specs.Reading.{isSpace, spanAt, elementAt, valueAt}
 use Rattle.values.specs.declared.Found.{Found}
 use Rattle.values.specs.declared.Found.the-variants.{At, Missing}
-use Rattle.values.specs.Tree.{Json, Elements, no-more, element, Maybe, none, some, treeAt, treeOf, seen, itemsFrom, elementsFrom, elementsAfter}
+use Rattle.values.specs.Tree.{Json, Elements, treeAt, treeOf, seen, itemsFrom, elementsFrom, elementsAfter}
 use Rattle.values.proofs.Walking.{elements-turn, element-after-done, element-after-wrong, element-after-more, element-less}
-use Rattle.lists.specs.Lists.{toList, hasType, isIpv4, nested, listEntries, entriesIn, entriesNamed, listNamed, listsOf, policyLists}
+use Rattle.lists.specs.Lists.{toList, hasType, nested, listEntries, entriesIn, entriesNamed, listNamed, listsOf, policyLists}
 use Rattle.entries.specs.Known.{entryKnown}
 use Rattle.entries.specs.Sound.{entryOk}
 use Rattle.rules.specs.Rows.{ruleWords}

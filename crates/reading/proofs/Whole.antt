@@ -1,6 +1,6 @@
 -- Laws of all that is read of a file.
 use Prim.Native.Nat.{ℕ, _+_, _*_, _≤_, _<_}
-use mathlib.Core.Path.{_≡_, refl, sym, ap, ap₂, _∙_, subst}
+use mathlib.Core.Path.{_≡_, ap, ap₂, _∙_, subst}
 use mathlib.Core.List.{List, _++_}
 use lib.ListN.{drop}
 use lib.Seq.{sets}
@@ -16,8 +16,8 @@ use Rattle.values.specs.Tree.{Json, treeAt, treeOf, lookup, seen}
 use Rattle.lists.specs.Lists.{entriesOf}
 use Rattle.naming.specs.Masks.{networkWords}
 use Rattle.rules.specs.Meaning.{urlOf}
-use Rattle.values.specs.Rules.{bytesIn}
-use Rattle.rules.specs.Names.{StringAt}
+use Rattle.values.specs.Rules.{bytesIn, StringAt}
+use Rattle.values.proofs.Patterns.{string-found}
 use Rattle.rules.specs.Defaults.{dnsWords, ntpWords}
 use Rattle.reading.specs.declared.Tally.{Tally}
 use Rattle.reading.specs.Walked.{seeAll, putAll, rowsOf, Walked}
@@ -37,7 +37,7 @@ both-walked s site file mud url f {t} {r} {w} {m} {o} e a g h =
     let from = entriesBy FromDevice file (treeAt 15 s mud) in
     let to = entriesBy ToDevice file (treeAt 15 s mud) in
     let b = bytesAt s url in
-    let z : b ≡ bytesIn (lookup (ascii "mud-url") (treeAt 15 s mud)) = a .is 14 ∙ ap bytesIn (sym e) in
+    let z : b ≡ bytesIn (lookup (ascii "mud-url") (treeAt 15 s mud)) = string-found (lookup (ascii "mud-url") (treeAt 15 s mud)) 14 s f e a in
     record {
       tally = h .tally ∙ ap (seeAll ToDevice to) (g .tally);
       words = subst (λ (u : List ℕ). o ≡ putAll (seeAll FromDevice from none .count) (rowsOf ToDevice site u to) (putAll 0 (rowsOf FromDevice site u from) w)) z

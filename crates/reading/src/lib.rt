@@ -13,19 +13,21 @@ use lists::policies::policy_lists;
 use reader::in_file;
 use rules::defaults::put_dns;
 use rules::defaults::put_ntp;
-use rules::names::string_place;
 use rules::rows::put_rule;
 use values::Found;
+use values::clean::both;
+use values::strings::string_place;
 use values::walk::member;
 use values::walk::next_element;
 ghost use mathlib.Core.Path.{_≡_};
-ghost use mathlib.Core.Bool.{cond, _&&_};
 ghost use mathlib.Core.List.{[], _∷_};
 ghost use Prim.Native.Nat.{_≤_};
 ghost use lib.ListN.{length};
 ghost use Rattle.values.specs.Decode.{bytesAt};
-ghost use Rattle.values.specs.Tree.{treeAt, treeOf, seen, itemsFrom, elementsFrom};
-ghost use Rattle.site.specs.Site.{lines};
+ghost use Rattle.values.specs.Tree.{treeAt, treeOf, itemsFrom, elementsFrom};
+ghost use Rattle.site.specs.Site.{judged};
+ghost use Rattle.site.specs.declared.table.Judged.the-variants.{Sound};
+ghost use Rattle.naming.specs.Masks.{PlacesOf};
 ghost use Rattle.lists.specs.Lists.{toList, entriesIn, entriesNamed, listNamed, listsOf, policyLists};
 ghost use Rattle.entries.specs.Places.{PartsOf};
 ghost use Rattle.lists.specs.Index.{Indexed};
@@ -38,15 +40,6 @@ pub struct Tally {
     pub known: bool,
     pub sound: bool,
     pub count: usize,
-}
-
-fn both(a: bool, b: bool) -> bool
-    ensures { λ r. ⌜ r ≡ (a && b) ⌝ }
-{
-    if a {
-        return b;
-    }
-    false
 }
 
 fn more(n: usize) -> usize
@@ -74,6 +67,7 @@ fn see(s: &[u8], entry: usize, e: Parts, d: Direction, t: Tally) -> Tally
 fn put_entry(
     s: &[u8],
     site: &[u8],
+    places: &[u64],
     work: &mut [u64],
     entry: usize,
     e: Parts,
@@ -81,29 +75,30 @@ fn put_entry(
     url: usize,
     k: usize,
 )
-    requires { ⌜ (length (lines (now site) 0) ≤ 64) × PartsOf (now s) entry e ⌝ }
+    requires { ⌜ PlacesOf (now site) (now places) × PartsOf (now s) entry e ⌝ }
     ensures { λ _. ⌜ now (work .exit) ≡ putAt k (ruleWords d (now (site .entry)) (bytesAt (now (s .entry)) url) (treeAt 10 (now (s .entry)) entry)) (now (work .entry)) ⌝ }
 {
     if k < 64 {
         let at = 169 + 21 * k;
-        put_rule(s, site, work, at, entry, e, d, url);
+        put_rule(s, site, places, work, at, entry, e, d, url);
     }
 }
 
 fn read_entry(
     s: &[u8],
     site: &[u8],
+    places: &[u64],
     work: &mut [u64],
     entry: usize,
     d: Direction,
     url: usize,
     t: Tally,
 ) -> Tally
-    requires { ⌜ length (lines (now site) 0) ≤ 64 ⌝ }
+    requires { ⌜ PlacesOf (now site) (now places) ⌝ }
     ensures { λ r. ⌜ Walked d (now (site .entry)) (bytesAt (now (s .entry)) url) (treeAt 10 (now (s .entry)) entry ∷ []) t (now (work .entry)) r (now (work .exit)) ⌝ }
 {
     let e = parts_of(s, entry);
-    put_entry(s, site, work, entry, e, d, url, t.count);
+    put_entry(s, site, places, work, entry, e, d, url, t.count);
     see(s, entry, e, d, t)
 }
 
@@ -111,19 +106,20 @@ fn read_entry(
 fn read_list(
     s: &[u8],
     site: &[u8],
+    places: &[u64],
     work: &mut [u64],
     at: usize,
     d: Direction,
     url: usize,
     before: Tally,
 ) -> Tally
-    requires { ⌜ length (lines (now site) 0) ≤ 64 ⌝ }
+    requires { ⌜ PlacesOf (now site) (now places) ⌝ }
     ensures { λ r. ⌜ Walked d (now (site .entry)) (bytesAt (now (s .entry)) url) (toList (elementsFrom 10 (now (s .entry)) at)) before (now (work .entry)) r (now (work .exit)) ⌝ }
 {
     let mut t = before;
     let mut j = at;
     loop {
-        t = read_entry(s, site, work, skip(s, j), d, url, t);
+        t = read_entry(s, site, places, work, skip(s, j), d, url, t);
         match next_element(s, j, 10) {
             Next::Done(_) => {
                 return t;
@@ -142,6 +138,7 @@ fn read_list(
 fn read_named(
     s: &[u8],
     site: &[u8],
+    places: &[u64],
     work: &mut [u64],
     lists: Found,
     index: Index,
@@ -150,7 +147,7 @@ fn read_named(
     url: usize,
     t: Tally,
 ) -> Tally
-    requires { ⌜ (length (lines (now site) 0) ≤ 64) × Indexed (now s) (itemsFrom 13 (now s) lists) (now work) index ⌝ }
+    requires { ⌜ PlacesOf (now site) (now places) × Indexed (now s) (itemsFrom 13 (now s) lists) (now work) index ⌝ }
     ensures { λ r. ⌜ Walked d (now (site .entry)) (bytesAt (now (s .entry)) url) (entriesIn (listNamed (itemsFrom 13 (now (s .entry)) lists) (treeAt 11 (now (s .entry)) n))) t (now (work .entry)) r (now (work .exit)) ⌝ }
 {
     let Found::At(list) = list_of(s, lists, n, work, index) else {
@@ -161,7 +158,7 @@ fn read_named(
     }
     match nested_at(s, list, 13, b"aces", b"ace") {
         Found::Missing => t,
-        Found::At(at) => read_list(s, site, work, at, d, url, t),
+        Found::At(at) => read_list(s, site, places, work, at, d, url, t),
     }
 }
 
@@ -169,6 +166,7 @@ fn read_named(
 fn read_policy(
     s: &[u8],
     site: &[u8],
+    places: &[u64],
     work: &mut [u64],
     lists: Found,
     index: Index,
@@ -177,13 +175,13 @@ fn read_policy(
     url: usize,
     before: Tally,
 ) -> Tally
-    requires { ⌜ (length (lines (now site) 0) ≤ 64) × Indexed (now s) (itemsFrom 13 (now s) lists) (now work) index ⌝ }
+    requires { ⌜ PlacesOf (now site) (now places) × Indexed (now s) (itemsFrom 13 (now s) lists) (now work) index ⌝ }
     ensures { λ r. ⌜ Walked d (now (site .entry)) (bytesAt (now (s .entry)) url) (entriesNamed (itemsFrom 13 (now (s .entry)) lists) (elementsFrom 11 (now (s .entry)) at)) before (now (work .entry)) r (now (work .exit)) ⌝ }
 {
     let mut t = before;
     let mut j = at;
     loop {
-        t = read_named(s, site, work, lists, index, skip(s, j), d, url, t);
+        t = read_named(s, site, places, work, lists, index, skip(s, j), d, url, t);
         match next_element(s, j, 11) {
             Next::Done(_) => {
                 return t;
@@ -202,6 +200,7 @@ fn read_policy(
 fn read_direction(
     s: &[u8],
     site: &[u8],
+    places: &[u64],
     work: &mut [u64],
     index: Index,
     mud: usize,
@@ -209,18 +208,36 @@ fn read_direction(
     url: usize,
     t: Tally,
 ) -> Tally
-    requires { ⌜ (length (lines (now site) 0) ≤ 64) × Indexed (now s) (listsOf (treeOf 16 (now s))) (now work) index ⌝ }
+    requires { ⌜ PlacesOf (now site) (now places) × Indexed (now s) (listsOf (treeOf 16 (now s))) (now work) index ⌝ }
     ensures { λ r. ⌜ Walked d (now (site .entry)) (bytesAt (now (s .entry)) url) (entriesNamed (listsOf (treeOf 16 (now (s .entry)))) (policyLists d (treeAt 15 (now (s .entry)) mud))) t (now (work .entry)) r (now (work .exit)) ⌝ }
 {
     match policy_lists(s, mud, d) {
         Found::Missing => t,
-        Found::At(at) => read_policy(s, site, work, lists_of(s, skip(s, 0)), index, at, d, url, t),
+        Found::At(at) => read_policy(
+            s,
+            site,
+            places,
+            work,
+            lists_of(s, skip(s, 0)),
+            index,
+            at,
+            d,
+            url,
+            t,
+        ),
     }
 }
 
 // Both directions, by the place of the header; the file's own URL stands in it.
-fn read_both(s: &[u8], site: &[u8], work: &mut [u64], index: Index, mud: usize) -> Tally
-    requires { ⌜ (length (lines (now site) 0) ≤ 64) × Indexed (now s) (listsOf (treeOf 16 (now s))) (now work) index ⌝ }
+fn read_both(
+    s: &[u8],
+    site: &[u8],
+    places: &[u64],
+    work: &mut [u64],
+    index: Index,
+    mud: usize,
+) -> Tally
+    requires { ⌜ PlacesOf (now site) (now places) × Indexed (now s) (listsOf (treeOf 16 (now s))) (now work) index ⌝ }
     ensures { λ r. ⌜ BothWalked (now (site .entry)) (treeOf 16 (now (s .entry))) (treeAt 15 (now (s .entry)) mud) (now (work .entry)) r (now (work .exit)) ⌝ }
 {
     let url = string_place(s, member(s, mud, 15, b"mud-url"));
@@ -229,12 +246,32 @@ fn read_both(s: &[u8], site: &[u8], work: &mut [u64], index: Index, mud: usize) 
         sound: true,
         count: 0,
     };
-    let t = read_direction(s, site, work, index, mud, Direction::FromDevice, url, none);
-    read_direction(s, site, work, index, mud, Direction::ToDevice, url, t)
+    let t = read_direction(
+        s,
+        site,
+        places,
+        work,
+        index,
+        mud,
+        Direction::FromDevice,
+        url,
+        none,
+    );
+    read_direction(
+        s,
+        site,
+        places,
+        work,
+        index,
+        mud,
+        Direction::ToDevice,
+        url,
+        t,
+    )
 }
 
-fn read_entries(s: &[u8], site: &[u8], work: &mut [u64], index: Index) -> Tally
-    requires { ⌜ (length (lines (now site) 0) ≤ 64) × Indexed (now s) (listsOf (treeOf 16 (now s))) (now work) index ⌝ }
+fn read_entries(s: &[u8], site: &[u8], places: &[u64], work: &mut [u64], index: Index) -> Tally
+    requires { ⌜ PlacesOf (now site) (now places) × Indexed (now s) (listsOf (treeOf 16 (now s))) (now work) index ⌝ }
     ensures { λ r. ⌜ EntriesRead (now (site .entry)) (treeOf 16 (now (s .entry))) (now (work .entry)) r (now (work .exit)) ⌝ }
 {
     match in_file(s, b"ietf-mud:mud") {
@@ -243,29 +280,30 @@ fn read_entries(s: &[u8], site: &[u8], work: &mut [u64], index: Index) -> Tally
             sound: true,
             count: 0,
         },
-        Found::At(mud) => read_both(s, site, work, index, mud),
+        Found::At(mud) => read_both(s, site, places, work, index, mud),
     }
 }
 
 // The defaults, behind n entries.
-fn put_defaults(site: &[u8], work: &mut [u64], n: usize)
-    requires { ⌜ length (lines (now site) 0) ≤ 64 ⌝ }
+fn put_defaults(site: &[u8], places: &[u64], work: &mut [u64], n: usize)
+    requires { ⌜ PlacesOf (now site) (now places) ⌝ }
     ensures { λ _. ⌜ now (work .exit) ≡ putDefaults n (now (site .entry)) (now (work .entry)) ⌝ }
 {
     if n < 65 {
         let at = 169 + 21 * n;
-        put_dns(site, work, at);
-        put_ntp(site, work, at + 21);
+        put_dns(site, places, work, at);
+        put_ntp(site, places, work, at + 21);
     }
 }
 
 // The networks of the site, the rules of all entries (if there are at most 64), and the defaults, in the form that `builder` reads.
 pub fn read(s: &[u8], site: &[u8], work: &mut [u64], index: Index) -> Tally
-    requires { ⌜ (length (lines (now site) 0) ≤ 64) × (64 ≤ length (now work)) × Indexed (now s) (listsOf (treeOf 16 (now s))) (now work) index ⌝ }
+    requires { ⌜ (judged (now site) ≡ Sound) × (64 ≤ length (now work)) × Indexed (now s) (listsOf (treeOf 16 (now s))) (now work) index ⌝ }
     ensures { λ r. ⌜ ReadIn (now (site .entry)) (treeOf 16 (now (s .entry))) (now (work .entry)) r (now (work .exit)) ⌝ }
 {
-    naming::networks::load(site, work);
-    let t = read_entries(s, site, work, index);
-    put_defaults(site, work, t.count);
+    let mut places: [u64; 64] = [0; 64];
+    naming::networks::load(site, work, &mut places);
+    let t = read_entries(s, site, &places, work, index);
+    put_defaults(site, &places, work, t.count);
     t
 }

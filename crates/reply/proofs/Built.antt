@@ -7,7 +7,8 @@ use mathlib.Core.List.{List, [], _∷_}
 use lib.ListN.{length, take, drop, getD}
 use Rattle.flows.specs.Table.{_to_, Line, Table, Set, tableOf}
 use Rattle.flows.specs.Flow.{widths}
-use Rattle.flows.proofs.Stored.{LineIn, table-lines}
+use Rattle.flows.specs.Canonical.{LineIn}
+use Rattle.flows.proofs.Stored.{table-lines}
 use Rattle.builder.specs.Encoding.{tableWords}
 use Rattle.builder.proofs.Reading.{line-read}
 use Rattle.stored.specs.Line.{ranges}

@@ -1,13 +1,12 @@
 -- Laws of the parts of an entry.
 use Prim.Native.Nat.{ℕ, _+_, _-_, _%_, _≤_, _<_}
-use native.Mathlib.Omega.{arith}
 use native.Mathlib.Nat.{mod-eq-of-lt}
-use mathlib.Core.Path.{_≡_, refl, sym, ap, _∙_}
+use mathlib.Core.Path.{_≡_, refl, ap, _∙_}
 use mathlib.Core.List.{List, []}
 use mathlib.Core.Bool.{Bool, true, false}
 use lib.ListN.{getD}
 use borrow.Author.Needs.{needs}
-use borrow.Author.Tests.{ne-eqb, lt-ltb, le-ltb}
+use borrow.Author.Tests.{lt-ltb, le-ltb}
 use Rattle.text.specs.Ascii.{ascii}
 use Rattle.text.specs.Words.{sameBytes}
 use Rattle.text.specs.Bytes.{between}
@@ -23,12 +22,12 @@ use Rattle.values.specs.declared.Count.the-variants.{Is, Not}
 use Rattle.values.specs.declared.Found.{Found}
 use Rattle.values.specs.declared.Found.the-variants.{At, Missing}
 use Rattle.values.specs.Decode.{bytesAt}
-use Rattle.values.specs.Tree.{Json, null, bool, integer, real, string, array, object, Maybe, some, treeAt, lookup, seen, countOf, isString}
+use Rattle.values.specs.Tree.{Maybe, some, treeAt, lookup, seen, countOf}
 use Rattle.values.proofs.Trees.{tree-string}
-use Rattle.values.proofs.Sorts.{string-kind}
+use Rattle.values.proofs.Patterns.{no-bytes}
 use Rattle.header.specs.Asked.{isNetwork, netIn}
 use Rattle.entries.specs.Sound.{remoteNetwork}
-use Rattle.values.specs.Rules.{bytesIn, under}
+use Rattle.values.specs.Rules.{under}
 use Rattle.rules.specs.Parts.{numberOr, protocolIn, protocols, openerIn, openers, networkIn, networks, transport}
 use Rattle.rules.specs.declared.parts.Between.{Between}
 
@@ -58,15 +57,6 @@ module _ (s : List ℕ) (f : Found) where
   protocol-some q c e h = rw q (h ∙ ap (λ k. numberOr k (span 0 255)) e)
 
 -- ## strings
-pub no-bytes : (j : Json) → isString j ≡ false → bytesIn (some j) ≡ []
-no-bytes null e = refl
-no-bytes (bool b) e = refl
-no-bytes (integer n) e = refl
-no-bytes real e = refl
-no-bytes (string b) e = absurd (let z : _≡_ {A = ℕ} 0 1 = cc in omega arith)
-no-bytes (array es) e = refl
-no-bytes (object ms) e = refl
-
 net-empty : netIn [] ≡ NoNet
 unfolding netIn isNetwork networkAt quadAt closedBy numberAt between
 net-empty = refl
@@ -80,10 +70,10 @@ module _ (s : List ℕ) (f : Found) where
 
   module _ {p : ℕ} (q : f ≡ At p) {b : ℕ} (g : b ≡ getD s p 0) where
     pub opener-other : (b ≡ 34 → ⊥) → span 1 1 ≡ openerIn (seen (treeAt 7 s) f)
-    opener-other u = rw (q, no-bytes (treeAt 7 s p) (sym (string-kind 7 s p b g) ∙ ne-eqb b 34 u))
+    opener-other u = rw (q, no-bytes 7 s p b g u)
 
     pub network-other : (b ≡ 34 → ⊥) → span 0 4294967295 ≡ networkIn (seen (treeAt 7 s) f)
-    network-other u = rw (q, no-bytes (treeAt 7 s p) (sym (string-kind 7 s p b g) ∙ ne-eqb b 34 u), net-empty)
+    network-other u = rw (q, no-bytes 7 s p b g u, net-empty)
 
     module _ (u : b ≡ 34) where
       module _ {x : Bool} (e : x ≡ sameBytes (bytesAt s (p + 1)) (ascii "from-device")) where

@@ -19,8 +19,9 @@ use Rattle.values.specs.Decode.{bytesAt}
 use Rattle.values.specs.Tree.{Json, null, bool, integer, real, string, array, object, some, treeAt, lookup, seen, countOf, isString}
 use Rattle.values.proofs.Trees.{tree-string}
 use Rattle.values.proofs.Sorts.{string-kind}
+use Rattle.values.proofs.Patterns.{inside-none, inside-some}
 use Rattle.rules.specs.Meaning.{operatorOf}
-use Rattle.rules.specs.Ports.{portNumber, ranges, oneRange, allPorts, byOperator, thenPorts, portsOf, portsIn}
+use Rattle.rules.specs.Ports.{portNumber, oneRange, byOperator}
 use Rattle.rules.specs.declared.ports.Ports.{Ports}
 
 -- ## a choice, by what was tested
@@ -77,24 +78,10 @@ module _ (s : List ℕ) (at n : ℕ) {f : Found} (e : lookup (ascii "operator") 
     operator-is u h = rw (e, q, tree-string 6 s p g u) h
 
 -- ## a port object
-module _ (w : List ℕ) (j : Json) (s : List ℕ) {f : Found} (d : ℕ) (e : lookup w j ≡ seen (treeAt d s) f) (g : Json → Ports) (z : Ports) {r : Ports} where
-  pub ports-none : f ≡ Missing → r ≡ z → r ≡ thenPorts (lookup w j) g z
-  ports-none q h = rw (e, q) h
-
-  pub ports-some : {p : ℕ} → f ≡ At p → r ≡ g (treeAt d s p) → r ≡ thenPorts (lookup w j) g z
-  ports-some q h = rw (e, q) h
-
-module _ (w : List ℕ) (j : Json) (s : List ℕ) {f : Found} (e : lookup w j ≡ seen (treeAt 7 s) f) {r : Ports} where
-  pub port-none : f ≡ Missing → r ≡ allPorts → r ≡ portsIn (lookup w j)
-  port-none q h = rw (e, q) h
-
-  pub port-some : {p : ℕ} → f ≡ At p → r ≡ portsOf (treeAt 7 s p) → r ≡ portsIn (lookup w j)
-  port-some q h = rw (e, q) h
-
 pub one-range : (a b c d : ℕ) → a ≡ c → b ≡ d → {r : Ports} → r ≡ oneRange a b → r ≡ oneRange c d
 one-range a b c d p q h = rw (← p, ← q) h
 
 pub operator-number : (o : List ℕ) (n m : ℕ) → n ≡ m → {r : Ports} → r ≡ byOperator o n → r ≡ byOperator o m
 operator-number o n m e h = rw (← e) h
 
-pub ruleset porting = (needs, past-is, cond-yes, cond-no, cond-eq, cond-ne, number-not, number-low, number-high, number-of, operator-none, operator-other, operator-is, ports-none, ports-some, port-none, port-some, one-range, operator-number)
+pub ruleset porting = (needs, past-is, cond-yes, cond-no, cond-eq, cond-ne, number-not, number-low, number-high, number-of, operator-none, operator-other, operator-is, inside-none, inside-some, one-range, operator-number)

@@ -6,10 +6,9 @@ use native.Mathlib.Omega.{arith}
 use mathlib.Core.Path.{_≡_, refl, sym, ap, _∙_, subst}
 use mathlib.Core.Bool.{Bool, true, false, cond}
 use mathlib.Core.List.{List, [], _∷_, _++_}
-use lib.ListN.{length, set, getD, List·getD-eq-default}
+use lib.ListN.{length, set}
 use lib.Seq.{sets, set-out, set-comm}
 use borrow.Author.Needs.{needs}
-use borrow.Author.Tests.{ne-eqb}
 use Rattle.text.specs.Ascii.{ascii}
 use Rattle.text.specs.Words.{sameBytes}
 use Rattle.text.specs.Written.{Put}
@@ -20,13 +19,10 @@ use Rattle.flows.specs.declared.Direction.the-variants.{FromDevice, ToDevice}
 use Rattle.json.proofs.Runs.{past-is}
 use Rattle.values.specs.declared.Found.{Found}
 use Rattle.values.specs.declared.Found.the-variants.{At, Missing}
-use Rattle.values.specs.Decode.{bytesAt, pieceAt}
-use Rattle.values.specs.Rules.{must, text, bytesIn, under}
+use Rattle.values.specs.Decode.{bytesAt}
+use Rattle.values.specs.Rules.{must, text, bytesIn, StringAt, under}
 use Rattle.values.specs.Tree.{Json, Maybe, none, some, treeAt, lookup, seen}
-use Rattle.values.proofs.Decoding.{string-turn}
-use Rattle.values.proofs.Trees.{tree-string}
-use Rattle.values.proofs.Sorts.{string-kind}
-use Rattle.values.proofs.Patterns.{must-none, must-some, text-is, text-not}
+use Rattle.values.proofs.Patterns.{must-none, must-some, text-is, text-not, string-found}
 use Rattle.site.specs.Url.{authorityOf, sameHost, sameAuthority, sameName}
 use Rattle.site.specs.declared.lines.Kind.{Kind}
 use Rattle.site.specs.declared.lines.Kind.the-variants as kind
@@ -36,17 +32,18 @@ use Rattle.naming.specs.Wanted.{kindOf, testOf}
 use Rattle.naming.specs.declared.wanted.Wanted.{Wanted}
 use Rattle.naming.specs.declared.wanted.Wanted.the-variants.{Host, Class, Mine, Local, Model, Maker, Kin}
 use Rattle.entries.specs.Sound.{remoteName}
+use Rattle.entries.specs.Places.{Held}
+use Rattle.entries.specs.declared.places.Parts.{Parts}
 use Rattle.rules.specs.Meaning.{entryAccepts}
-use Rattle.rules.specs.Ports.{oneRange, portsOf, portsIn}
+use Rattle.rules.specs.Ports.{portsIn}
 use Rattle.rules.specs.Parts.{protocols, openers, networks, transport}
-use Rattle.rules.specs.Names.{StringAt, maskIf, masked, thingMasks, classMask, nullMasks, hostMask, maskWords}
+use Rattle.rules.specs.Names.{maskIf, masked, thingMasks, classMask, nullMasks, hostMask, maskWords}
 use Rattle.rules.specs.Rows.{portSides, directionSpan, rowOf, spanWords, portsWords, frontWords, backWords, rowWords, limitWords, ruleWords}
 use Rattle.rules.specs.Defaults.{defaultRow, defaultWords, dnsWords, ntpWords}
 use Rattle.rules.specs.declared.parts.Between.{Between}
 use Rattle.rules.specs.declared.ports.Ports.{Ports}
 use Rattle.rules.specs.declared.rows.PortSides.{PortSides}
 use Rattle.rules.specs.declared.rows.Row.{Row}
-use Rattle.rules.proofs.PartLaws.{no-bytes}
 
 -- ## words at their places
 module _ (l : List ℕ) (at x : ℕ) where
@@ -73,22 +70,7 @@ module _ {l m n o : List ℕ} {at p q r : ℕ} (b : Row) where
   pub front-put : {k : List ℕ} {z x : ℕ} → x ≡ cond (b .accepts) 1 0 → Put k z (x ∷ []) at l → Put l at (spanWords (b .direction)) p m → Put m p (spanWords (b .protocols)) q n → Put n q (spanWords (b .openers)) r o → Put k z (frontWords b) r o
   front-put y d e f g = rw (← y) (andThen d (andThen e (andThen f g)))
 
--- ## strings and masks
-bytes-end : (s : List ℕ) → bytesAt s (length s) ≡ []
-unfolding pieceAt
-bytes-end s = let h : length s ≤ length s = omega arith in string-turn s (length s) ∙ rw (List·getD-eq-default s 0 h)
-
-module _ (s : List ℕ) (f : Found) where
-  pub string-none : f ≡ Missing → StringAt s f (length s)
-  string-none q = record { is = λ d. rw q (bytes-end s) }
-
-  module _ {p : ℕ} (q : f ≡ At p) {b : ℕ} (g : b ≡ getD s p 0) where
-    pub string-there : b ≡ 34 → StringAt s f (p + 1)
-    string-there u = record { is = λ d. rw (q, tree-string d s p g u) }
-
-    pub string-not : (b ≡ 34 → ⊥) → StringAt s f (length s)
-    string-not u = record { is = λ d. rw q (bytes-end s ∙ sym (no-bytes (treeAt d s p) (sym (string-kind d s p b g) ∙ ne-eqb b 34 u))) }
-
+-- ## masks
 module _ (l : List ℕ) (at : ℕ) (t : ℕ → Json) (f : Found) (x : ℕ) where
   pub mask-none : f ≡ Missing → Put l at (maskIf (seen t f) x) at l
   mask-none q = rw q (record { place = sym (add-zero at); text = refl })
@@ -100,7 +82,7 @@ module _ (l : List ℕ) (at : ℕ) (t : ℕ → Json) (f : Found) (x : ℕ) wher
 module _ {l o : List ℕ} {at r : ℕ} (s site w : List ℕ) (m : Maybe) (f : Found) (e : under w m ≡ seen (treeAt 7 s) f) where
   module _ (k : Kind) (test : List ℕ → List ℕ → Bool) {p : ℕ} (a : StringAt s f p) where
     by-string : Put l at (maskIf (seen (treeAt 7 s) f) (masked k (test (bytesAt s p)) site)) r o → Put l at (maskIf (under w m) (masked k (test (bytesIn (under w m))) site)) r o
-    by-string h = subst (λ (b : List ℕ). Put l at (maskIf (under w m) (masked k (test b) site)) r o) (a .is 7 ∙ ap bytesIn (sym e)) (subst (λ (n : Maybe). Put l at (maskIf n (masked k (test (bytesAt s p)) site)) r o) (sym e) h)
+    by-string h = subst (λ (b : List ℕ). Put l at (maskIf (under w m) (masked k (test b) site)) r o) (string-found (under w m) 7 s f e a) (subst (λ (n : Maybe). Put l at (maskIf n (masked k (test (bytesAt s p)) site)) r o) (sym e) h)
 
   pub by-member : (x : ℕ) → Put l at (maskIf (seen (treeAt 7 s) f) x) r o → Put l at (maskIf (under w m) x) r o
   by-member x h = subst (λ (n : Maybe). Put l at (maskIf n x) r o) (sym e) h
@@ -139,11 +121,11 @@ pub host-put : {l o : List ℕ} {at r a : ℕ} (d : Direction) (s site : List �
 unfolding hostMask
 host-put d s site ipv4 f e a p = by-string s site (remoteName d) ipv4 f e kind.Host (λ b n. sameHost n b) a p
 
-pub names-put : {k l m n o : List ℕ} {at p q r z : ℕ} (d : Direction) (s site url : List ℕ) (x : Maybe) (f g : Found) →
-    under (ascii "ietf-mud:mud") x ≡ seen (treeAt 8 s) f → Put k at (thingMasks site (seen (treeAt 8 s) f)) p l → Put l p (classMask site (seen (treeAt 8 s) f)) q m → Put m q (nullMasks site url (seen (treeAt 8 s) f)) r n →
-    under (ascii "ipv4") x ≡ seen (treeAt 8 s) g → Put n r (hostMask d site (seen (treeAt 8 s) g)) z o → Put k at (maskWords d site url x) z o
+pub names-put : {k l m n o : List ℕ} {at p q r z : ℕ} (d : Direction) (s site url : List ℕ) (f : Found) (e : Parts) → Held s f e →
+    Put k at (thingMasks site (seen (treeAt 8 s) (e .mud))) p l → Put l p (classMask site (seen (treeAt 8 s) (e .mud))) q m → Put m q (nullMasks site url (seen (treeAt 8 s) (e .mud))) r n →
+    Put n r (hostMask d site (seen (treeAt 8 s) (e .ipv4))) z o → Put k at (maskWords d site url (seen (treeAt 9 s) f)) z o
 unfolding maskWords
-names-put d s site url x f g e a b c h y = rw (e, h) (andThen a (andThen b (andThen c y)))
+names-put d s site url f e h a b c y = rw (h .mud, h .ipv4) (andThen a (andThen b (andThen c y)))
 
 module _ (d : Direction) (s : List ℕ) (m : Maybe) (r : Found) where
   pub host-from : d ≡ FromDevice → under (ascii "ietf-acldns:dst-dnsname") m ≡ seen (treeAt 7 s) r → under (remoteName d) m ≡ seen (treeAt 7 s) r
@@ -166,13 +148,6 @@ limits-put {l} {m} {o} {at} {r} d site url x p e =
     record { place = omega (arith, p .place); text = e .text ∙ rw (z, p .text, add-one at) (sets-set l at (suc at) (length xs) xs (omega arith)) }
 
 -- ## the parts of a rule
-module _ (w : List ℕ) (m : Maybe) (s : List ℕ) {f : Found} (e : under w m ≡ seen (treeAt 7 s) f) {r : Ports} where
-  pub under-none : f ≡ Missing → r ≡ oneRange 0 65535 → r ≡ portsIn (under w m)
-  under-none q h = rw (e, q) h
-
-  pub under-ports : {p : ℕ} → f ≡ At p → r ≡ portsOf (treeAt 7 s p) → r ≡ portsIn (under w m)
-  under-ports q h = rw (e, q) h
-
 module _ (d : Direction) (t : Maybe) {a b : Ports} (f : a ≡ portsIn (under (ascii "source-port") t)) (g : b ≡ portsIn (under (ascii "destination-port") t)) where
   pub sides-from : d ≡ FromDevice → record { remote = b; device = a } ≡ portSides d t
   unfolding portSides
@@ -222,4 +197,4 @@ module _ {l o : List ℕ} {at r : ℕ} (site : List ℕ) where
   unfolding ntpWords
   ntp-put h = h
 
-pub ruleset rowing = (needs, past-is, word-put, word-out, span-put, ports-put, front-put, back-put, row-put, string-none, string-there, string-not, mask-none, mask-some, nulls-put, things-put, class-put, host-put, names-put, host-from, host-to, limits-put, under-none, under-ports, sides-from, sides-to, only-is, row-is, accepts-none, accepts-missing, accepts-is, text-is, text-not, rule-put, default-put, dns-put, ntp-put)
+pub ruleset rowing = (needs, past-is, word-put, word-out, span-put, ports-put, front-put, back-put, row-put, mask-none, mask-some, nulls-put, things-put, class-put, host-put, names-put, host-from, host-to, limits-put, sides-from, sides-to, only-is, row-is, accepts-none, accepts-missing, accepts-is, text-is, text-not, rule-put, default-put, dns-put, ntp-put)

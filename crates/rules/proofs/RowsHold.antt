@@ -24,7 +24,7 @@ use Rattle.builder.specs.Encoding.{lowOf, highOf, rangeOf, namedBy, nameLimits,
 use Rattle.values.specs.declared.Count.{Count}
 use Rattle.values.specs.declared.Count.the-variants.{Is, Not}
 use Rattle.values.specs.Tree.{Json, null, bool, integer, real, string, array, object, Maybe, none, some, lookup, countOf, isObject}
-use Rattle.values.specs.Rules.{must, may, within, text, bytesIn, under, ifThere, orOther}
+use Rattle.values.specs.Rules.{must, may, inside, within, text, bytesIn, under, ifThere, orOther}
 use Rattle.site.specs.Site.{lines}
 use Rattle.site.specs.Url.{authorityOf, sameHost, sameAuthority, sameName}
 use Rattle.site.specs.declared.lines.Kind.{Kind}
@@ -37,7 +37,7 @@ use Rattle.header.specs.declared.asked.Asked.the-variants.{Text, Nulls, Integer
 use Rattle.header.specs.declared.asked.Form.the-variants.{Network, Initiator}
 use Rattle.entries.specs.Sound.{stringsOk, nullsOk, mudOk, remoteNetwork, remoteName, sidesNamed, sidesOk, ipv4Ok, portOk, portsOk, tcpOk, protocolIs, tcpBeside, udpBeside, transportOk, matchesOk, entryOk}
 use Rattle.rules.specs.Meaning.{equals, inNet, mudHolds, ipv4Holds, portHolds, sourceOf, destinationOf, portsHold, openerHolds, matchesHold, entryHolds, entryAccepts}
-use Rattle.rules.specs.Ports.{portNumber, oneRange, ranges, otherThan, byOperator, thenPorts, portsOf, portsIn, allPorts}
+use Rattle.rules.specs.Ports.{portNumber, oneRange, ranges, otherThan, byOperator, portsOf, portsIn, allPorts}
 use Rattle.rules.specs.Words.{rangesOf}
 use Rattle.rules.specs.Parts.{numberOr, protocolIn, protocols, openerIn, openers, netOr, networkIn, networks, transport}
 use Rattle.rules.specs.Names.{maskIf, masked, makerMask, modelMask, controllerMask, kinMask, localMask, mineMask, dnsMask, thingMasks, classMask, nullMasks, hostMask, maskWords}
@@ -137,7 +137,7 @@ ports-small : (m : Maybe) → Small (portsIn m)
 ports-small none = one-small 0 65535 (omega arith)
 ports-small (some p) = unfold portsOf in go (lookup (ascii "lower-port") p) (lookup (ascii "upper-port") p) (lookup (ascii "port") p)
   where
-    go : (l h n : Maybe) → Small (thenPorts l (λ low. thenPorts h (λ high. oneRange (portNumber (countOf low)) (portNumber (countOf high))) allPorts) (thenPorts n (λ k. byOperator (Rattle.rules.specs.Meaning.operatorOf (lookup (ascii "operator") p)) (portNumber (countOf k))) allPorts))
+    go : (l h n : Maybe) → Small (inside l (λ low. inside h (λ high. oneRange (portNumber (countOf low)) (portNumber (countOf high))) allPorts) (inside n (λ k. byOperator (Rattle.rules.specs.Meaning.operatorOf (lookup (ascii "operator") p)) (portNumber (countOf k))) allPorts))
     go (some l) (some h) n = one-small (portNumber (countOf l)) (portNumber (countOf h)) (number-small (countOf h))
     go (some l) none n = one-small 0 65535 (omega arith)
     go none h none = one-small 0 65535 (omega arith)

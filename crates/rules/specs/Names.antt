@@ -1,13 +1,10 @@
 -- The names that limit the remote address, as masks over the site's lines.
 use Prim.Native.Nat.{ℕ}
-use mathlib.Core.Path.{_≡_}
 use mathlib.Core.List.{List, [], _∷_, _++_}
 use mathlib.Core.Bool.{Bool, true}
 use Rattle.text.specs.Ascii.{ascii}
 use Rattle.flows.specs.declared.Direction.{Direction}
-use Rattle.values.specs.declared.Found.{Found}
-use Rattle.values.specs.Decode.{bytesAt}
-use Rattle.values.specs.Tree.{Maybe, treeAt, seen}
+use Rattle.values.specs.Tree.{Maybe}
 use Rattle.site.specs.Url.{authorityOf, sameHost, sameAuthority, sameName}
 use Rattle.site.specs.declared.lines.Kind.{Kind}
 use Rattle.site.specs.declared.lines.Kind.the-variants.{Host, Class, Mine, Local, Thing}
@@ -15,10 +12,6 @@ use Rattle.naming.specs.Named.{names}
 use Rattle.naming.specs.Masks.{namedMask}
 use Rattle.entries.specs.Sound.{remoteName}
 use Rattle.values.specs.Rules.{bytesIn, under, ifThere}
-
--- the string that was found, whatever the depth
-pub record StringAt (s : List ℕ) (found : Found) (r : ℕ) : Type 0 where
-  pub is : (d : ℕ) → bytesAt s r ≡ bytesIn (seen (treeAt d s) found)
 
 -- one mask where the member is there
 abbrev pub maskIf : Maybe → ℕ → List ℕ

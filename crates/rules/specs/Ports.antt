@@ -7,7 +7,8 @@ use Rattle.text.specs.Ascii.{ascii}
 use Rattle.text.specs.Words.{sameBytes}
 use Rattle.values.specs.declared.Count.{Count}
 use Rattle.values.specs.declared.Count.the-variants.{Is, Not}
-use Rattle.values.specs.Tree.{Json, Maybe, none, some, lookup, countOf}
+use Rattle.values.specs.Tree.{Json, Maybe, lookup, countOf}
+use Rattle.values.specs.Rules.{inside}
 use Rattle.rules.specs.Meaning.{operatorOf}
 use Rattle.rules.specs.declared.ports.Ports.{Ports}
 
@@ -35,17 +36,12 @@ byOperator operator n =
     (cond (sameBytes operator (ascii "lte")) (oneRange 0 n)
     (cond (sameBytes operator (ascii "gte")) (oneRange n 65535) (oneRange n n)))
 
-abbrev pub thenPorts : Maybe → (Json → Ports) → Ports → Ports
-thenPorts none f z = z
-thenPorts (some j) f z = f j
-
 unfoldable pub portsOf : Json → Ports
 portsOf p =
-    thenPorts (lookup (ascii "lower-port") p)
-    (λ low. thenPorts (lookup (ascii "upper-port") p) (λ high. oneRange (portNumber (countOf low)) (portNumber (countOf high))) allPorts)
-    (thenPorts (lookup (ascii "port") p) (λ n. byOperator (operatorOf (lookup (ascii "operator") p)) (portNumber (countOf n))) allPorts)
+    inside (lookup (ascii "lower-port") p)
+    (λ low. inside (lookup (ascii "upper-port") p) (λ high. oneRange (portNumber (countOf low)) (portNumber (countOf high))) allPorts)
+    (inside (lookup (ascii "port") p) (λ n. byOperator (operatorOf (lookup (ascii "operator") p)) (portNumber (countOf n))) allPorts)
 
 -- an absent port object limits nothing
 abbrev pub portsIn : Maybe → Ports
-portsIn none = allPorts
-portsIn (some p) = portsOf p
+portsIn m = inside m portsOf allPorts

@@ -7,10 +7,9 @@ use crate::rows::Row;
 use crate::rows::put_row;
 use naming::masks::class_named;
 ghost use mathlib.Core.Path.{_≡_};
-ghost use Prim.Native.Nat.{_≤_, _+_};
-ghost use lib.ListN.{length};
+ghost use Prim.Native.Nat.{_≤_};
 ghost use Rattle.text.specs.Written.{Put};
-ghost use Rattle.site.specs.Site.{lines};
+ghost use Rattle.naming.specs.Masks.{PlacesOf};
 ghost use Rattle.rules.specs.Defaults.{defaultRow, defaultWords, dnsWords, ntpWords};
 
 // Every flow of UDP with that remote port.
@@ -44,25 +43,32 @@ fn default_row(port: u16) -> Row
 }
 
 // "accept protocol 17 with remote port .. for class .."
-fn put_default(site: &[u8], work: &mut [u64], at: usize, class: &[u8], port: u16) -> usize
-    requires { ⌜ (length (lines (now site) 0) ≤ 64) × (at ≤ 1800) ⌝ }
+fn put_default(
+    site: &[u8],
+    places: &[u64],
+    work: &mut [u64],
+    at: usize,
+    class: &[u8],
+    port: u16,
+) -> usize
+    requires { ⌜ PlacesOf (now site) (now places) × (at ≤ 1800) ⌝ }
     ensures { λ r. ⌜ Put (now (work .entry)) at (defaultWords (now (site .entry)) (now (class .entry)) port) r (now (work .exit)) ⌝ }
 {
     let p = put_row(work, at, default_row(port));
     let q = put_word(work, p, 1);
-    put_word(work, q, class_named(class, site))
+    put_word(work, q, class_named(class, site, places))
 }
 
-pub fn put_dns(site: &[u8], work: &mut [u64], at: usize) -> usize
-    requires { ⌜ (length (lines (now site) 0) ≤ 64) × (at ≤ 1800) ⌝ }
+pub fn put_dns(site: &[u8], places: &[u64], work: &mut [u64], at: usize) -> usize
+    requires { ⌜ PlacesOf (now site) (now places) × (at ≤ 1800) ⌝ }
     ensures { λ r. ⌜ Put (now (work .entry)) at (dnsWords (now (site .entry))) r (now (work .exit)) ⌝ }
 {
-    put_default(site, work, at, b"urn:ietf:params:mud:dns", 53)
+    put_default(site, places, work, at, b"urn:ietf:params:mud:dns", 53)
 }
 
-pub fn put_ntp(site: &[u8], work: &mut [u64], at: usize) -> usize
-    requires { ⌜ (length (lines (now site) 0) ≤ 64) × (at ≤ 1800) ⌝ }
+pub fn put_ntp(site: &[u8], places: &[u64], work: &mut [u64], at: usize) -> usize
+    requires { ⌜ PlacesOf (now site) (now places) × (at ≤ 1800) ⌝ }
     ensures { λ r. ⌜ Put (now (work .entry)) at (ntpWords (now (site .entry))) r (now (work .exit)) ⌝ }
 {
-    put_default(site, work, at, b"urn:ietf:params:mud:ntp", 123)
+    put_default(site, places, work, at, b"urn:ietf:params:mud:ntp", 123)
 }

@@ -4,36 +4,21 @@ use entries::places::Parts;
 use flows::Direction;
 use naming::masks::mask;
 use naming::wanted::Wanted;
-use text::bytes::byte_at;
 use values::Found;
+use values::strings::string_place;
 ghost use mathlib.Core.Path.{_≡_};
 ghost use mathlib.Core.List.{[], _∷_};
 ghost use Prim.Native.Nat.{_≤_, _+_};
-ghost use lib.ListN.{length};
 ghost use Rattle.text.specs.Written.{Put};
 ghost use Rattle.values.specs.Decode.{bytesAt};
 ghost use Rattle.values.specs.Tree.{treeAt, seen};
-ghost use Rattle.site.specs.Site.{lines};
 ghost use Rattle.naming.specs.Named.{names};
-ghost use Rattle.naming.specs.Masks.{namedMask};
+ghost use Rattle.naming.specs.Masks.{namedMask, PlacesOf};
 ghost use Rattle.naming.specs.Wanted.{kindOf, testOf};
 ghost use Rattle.entries.specs.Sound.{remoteName};
 ghost use Rattle.entries.specs.Places.{Held};
 ghost use Rattle.values.specs.Rules.{under};
-ghost use Rattle.rules.specs.Names.{StringAt, maskIf, thingMasks, classMask, nullMasks, hostMask, maskWords};
-
-// The first character of the string that was found; the end of the text, where nothing stands, if there is none.
-pub fn string_place(s: &[u8], found: Found) -> usize
-    ensures { λ r. ⌜ StringAt (now (s .entry)) found r ⌝ }
-{
-    let Found::At(p) = found else {
-        return s.len();
-    };
-    if byte_at(s, p) == b'"' {
-        return p + 1;
-    }
-    s.len()
-}
+ghost use Rattle.rules.specs.Names.{maskIf, thingMasks, classMask, nullMasks, hostMask, maskWords};
 
 // A word at a place, if the buffer has it; the place after it.
 pub fn put_word(work: &mut [u64], at: usize, x: u64) -> usize
@@ -52,24 +37,32 @@ pub fn put_word(work: &mut [u64], at: usize, x: u64) -> usize
 fn put_mask(
     s: &[u8],
     site: &[u8],
+    places: &[u64],
     work: &mut [u64],
     at: usize,
     found: Found,
     wanted: Wanted,
 ) -> usize
-    requires { ⌜ (length (lines (now site) 0) ≤ 64) × (at ≤ 4000) ⌝ }
+    requires { ⌜ PlacesOf (now site) (now places) × (at ≤ 4000) ⌝ }
     ensures { λ r. ⌜ Put (now (work .entry)) at (maskIf (seen (treeAt 7 (now (s .entry))) found) (namedMask (names (kindOf wanted) (testOf (now (s .entry)) wanted) (now (site .entry))) (now (site .entry)))) r (now (work .exit)) ⌝ }
     ensures { λ r. ⌜ r ≤ at + 1 ⌝ }
 {
     match found {
         Found::Missing => at,
-        Found::At(_) => put_word(work, at, mask(s, wanted, site)),
+        Found::At(_) => put_word(work, at, mask(s, wanted, site, places)),
     }
 }
 
 // `manufacturer` and `model`.
-fn put_things(s: &[u8], site: &[u8], work: &mut [u64], at: usize, mud: Found) -> usize
-    requires { ⌜ (length (lines (now site) 0) ≤ 64) × (at ≤ 3000) ⌝ }
+fn put_things(
+    s: &[u8],
+    site: &[u8],
+    places: &[u64],
+    work: &mut [u64],
+    at: usize,
+    mud: Found,
+) -> usize
+    requires { ⌜ PlacesOf (now site) (now places) × (at ≤ 3000) ⌝ }
     ensures { λ r. ⌜ Put (now (work .entry)) at (thingMasks (now (site .entry)) (seen (treeAt 8 (now (s .entry))) mud)) r (now (work .exit)) ⌝ }
     ensures { λ r. ⌜ r ≤ at + 2 ⌝ }
 {
@@ -77,6 +70,7 @@ fn put_things(s: &[u8], site: &[u8], work: &mut [u64], at: usize, mud: Found) ->
     let p = put_mask(
         s,
         site,
+        places,
         work,
         at,
         maker,
@@ -86,6 +80,7 @@ fn put_things(s: &[u8], site: &[u8], work: &mut [u64], at: usize, mud: Found) ->
     put_mask(
         s,
         site,
+        places,
         work,
         p,
         model,
@@ -94,8 +89,15 @@ fn put_things(s: &[u8], site: &[u8], work: &mut [u64], at: usize, mud: Found) ->
 }
 
 // `controller`.
-fn put_class(s: &[u8], site: &[u8], work: &mut [u64], at: usize, mud: Found) -> usize
-    requires { ⌜ (length (lines (now site) 0) ≤ 64) × (at ≤ 3000) ⌝ }
+fn put_class(
+    s: &[u8],
+    site: &[u8],
+    places: &[u64],
+    work: &mut [u64],
+    at: usize,
+    mud: Found,
+) -> usize
+    requires { ⌜ PlacesOf (now site) (now places) × (at ≤ 3000) ⌝ }
     ensures { λ r. ⌜ Put (now (work .entry)) at (classMask (now (site .entry)) (seen (treeAt 8 (now (s .entry))) mud)) r (now (work .exit)) ⌝ }
     ensures { λ r. ⌜ r ≤ at + 1 ⌝ }
 {
@@ -103,6 +105,7 @@ fn put_class(s: &[u8], site: &[u8], work: &mut [u64], at: usize, mud: Found) -> 
     put_mask(
         s,
         site,
+        places,
         work,
         at,
         class,
@@ -111,17 +114,25 @@ fn put_class(s: &[u8], site: &[u8], work: &mut [u64], at: usize, mud: Found) -> 
 }
 
 // `same-manufacturer`, `local-networks` and `my-controller`, by the file's own URL.
-fn put_nulls(s: &[u8], site: &[u8], work: &mut [u64], at: usize, mud: Found, url: usize) -> usize
-    requires { ⌜ (length (lines (now site) 0) ≤ 64) × (at ≤ 3000) ⌝ }
+fn put_nulls(
+    s: &[u8],
+    site: &[u8],
+    places: &[u64],
+    work: &mut [u64],
+    at: usize,
+    mud: Found,
+    url: usize,
+) -> usize
+    requires { ⌜ PlacesOf (now site) (now places) × (at ≤ 3000) ⌝ }
     ensures { λ r. ⌜ Put (now (work .entry)) at (nullMasks (now (site .entry)) (bytesAt (now (s .entry)) url) (seen (treeAt 8 (now (s .entry))) mud)) r (now (work .exit)) ⌝ }
     ensures { λ r. ⌜ r ≤ at + 3 ⌝ }
 {
     let kin = member_in(s, mud, 8, b"same-manufacturer");
-    let p = put_mask(s, site, work, at, kin, Wanted::Kin(url));
+    let p = put_mask(s, site, places, work, at, kin, Wanted::Kin(url));
     let local = member_in(s, mud, 8, b"local-networks");
-    let q = put_mask(s, site, work, p, local, Wanted::Local);
+    let q = put_mask(s, site, places, work, p, local, Wanted::Local);
     let mine = member_in(s, mud, 8, b"my-controller");
-    put_mask(s, site, work, q, mine, Wanted::Mine(url))
+    put_mask(s, site, places, work, q, mine, Wanted::Mine(url))
 }
 
 // The member for the remote's DNS name, by the direction.
@@ -134,19 +145,36 @@ fn remote_name(s: &[u8], ipv4: Found, d: Direction) -> Found
     }
 }
 
-fn put_host(s: &[u8], site: &[u8], work: &mut [u64], at: usize, ipv4: Found, d: Direction) -> usize
-    requires { ⌜ (length (lines (now site) 0) ≤ 64) × (at ≤ 4000) ⌝ }
+fn put_host(
+    s: &[u8],
+    site: &[u8],
+    places: &[u64],
+    work: &mut [u64],
+    at: usize,
+    ipv4: Found,
+    d: Direction,
+) -> usize
+    requires { ⌜ PlacesOf (now site) (now places) × (at ≤ 4000) ⌝ }
     ensures { λ r. ⌜ Put (now (work .entry)) at (hostMask d (now (site .entry)) (seen (treeAt 8 (now (s .entry))) ipv4)) r (now (work .exit)) ⌝ }
     ensures { λ r. ⌜ r ≤ at + 1 ⌝ }
 {
     let host = remote_name(s, ipv4, d);
-    put_mask(s, site, work, at, host, Wanted::Host(string_place(s, host)))
+    put_mask(
+        s,
+        site,
+        places,
+        work,
+        at,
+        host,
+        Wanted::Host(string_place(s, host)),
+    )
 }
 
 // All names of the matches that were found; the place after their masks.
 pub fn put_names(
     s: &[u8],
     site: &[u8],
+    places: &[u64],
     work: &mut [u64],
     at: usize,
     found: Found,
@@ -154,14 +182,14 @@ pub fn put_names(
     d: Direction,
     url: usize,
 ) -> usize
-    requires { ⌜ (length (lines (now site) 0) ≤ 64) × (at ≤ 2000) × Held (now s) found e ⌝ }
+    requires { ⌜ PlacesOf (now site) (now places) × (at ≤ 2000) × Held (now s) found e ⌝ }
     ensures { λ r. ⌜ Put (now (work .entry)) at (maskWords d (now (site .entry)) (bytesAt (now (s .entry)) url) (seen (treeAt 9 (now (s .entry))) found)) r (now (work .exit)) ⌝ }
     ensures { λ r. ⌜ r ≤ at + 7 ⌝ }
 {
     let mud = e.mud;
     let ipv4 = e.ipv4;
-    let p = put_things(s, site, work, at, mud);
-    let q = put_class(s, site, work, p, mud);
-    let r = put_nulls(s, site, work, q, mud, url);
-    put_host(s, site, work, r, ipv4, d)
+    let p = put_things(s, site, places, work, at, mud);
+    let q = put_class(s, site, places, work, p, mud);
+    let r = put_nulls(s, site, places, work, q, mud, url);
+    put_host(s, site, places, work, r, ipv4, d)
 }

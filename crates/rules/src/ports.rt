@@ -11,8 +11,8 @@ ghost use Rattle.text.specs.Ascii.{ascii};
 ghost use Rattle.values.specs.Decode.{bytesAt};
 ghost use Rattle.values.specs.Tree.{treeAt, lookup, seen, countOf};
 ghost use Rattle.rules.specs.Meaning.{operatorOf};
-ghost use Rattle.values.specs.Rules.{under};
-ghost use Rattle.rules.specs.Ports.{portNumber, oneRange, otherThan, byOperator, thenPorts, portsOf, portsIn};
+ghost use Rattle.values.specs.Rules.{inside, under};
+ghost use Rattle.rules.specs.Ports.{portNumber, oneRange, otherThan, byOperator, portsOf, portsIn};
 
 // Two ranges, one of which must hold the port.
 pub struct Ports {
@@ -101,7 +101,7 @@ fn with_operator(s: &[u8], at: usize, n: u16) -> Ports
 }
 
 fn by_port(s: &[u8], at: usize) -> Ports
-    ensures { λ r. ⌜ r ≡ thenPorts (lookup (ascii "port") (treeAt 7 (now (s .entry)) at)) (λ n. byOperator (operatorOf (lookup (ascii "operator") (treeAt 7 (now (s .entry)) at))) (portNumber (countOf n))) (oneRange 0 65535) ⌝ }
+    ensures { λ r. ⌜ r ≡ inside (lookup (ascii "port") (treeAt 7 (now (s .entry)) at)) (λ n. byOperator (operatorOf (lookup (ascii "operator") (treeAt 7 (now (s .entry)) at))) (portNumber (countOf n))) (oneRange 0 65535) ⌝ }
 {
     match member(s, at, 7, b"port") {
         Found::Missing => one_range(0, 65535),

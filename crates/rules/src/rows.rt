@@ -18,12 +18,11 @@ use values::walk::member;
 ghost use mathlib.Core.Path.{_≡_};
 ghost use mathlib.Core.Bool.{cond};
 ghost use Prim.Native.Nat.{_≤_, _+_, _*_};
-ghost use lib.ListN.{length};
 ghost use Rattle.text.specs.Written.{Put};
 ghost use Rattle.values.specs.Decode.{bytesAt};
 ghost use Rattle.values.specs.Tree.{treeAt, lookup, seen};
 ghost use Rattle.text.specs.Ascii.{ascii};
-ghost use Rattle.site.specs.Site.{lines};
+ghost use Rattle.naming.specs.Masks.{PlacesOf};
 ghost use Rattle.entries.specs.Places.{Held, PartsOf};
 ghost use Rattle.rules.specs.Meaning.{entryAccepts};
 ghost use Rattle.rules.specs.Rows.{spanWords, portsWords, directionSpan, portSides, rowOf, frontWords, backWords, rowWords, limitWords, ruleWords};
@@ -164,6 +163,7 @@ pub fn put_row(work: &mut [u64], at: usize, row: Row) -> usize
 fn put_limits(
     s: &[u8],
     site: &[u8],
+    places: &[u64],
     work: &mut [u64],
     at: usize,
     found: Found,
@@ -171,11 +171,11 @@ fn put_limits(
     d: Direction,
     url: usize,
 ) -> usize
-    requires { ⌜ (length (lines (now site) 0) ≤ 64) × (at ≤ 1900) × Held (now s) found e ⌝ }
+    requires { ⌜ PlacesOf (now site) (now places) × (at ≤ 1900) × Held (now s) found e ⌝ }
     ensures { λ r. ⌜ Put (now (work .entry)) at (limitWords d (now (site .entry)) (bytesAt (now (s .entry)) url) (seen (treeAt 9 (now (s .entry))) found)) r (now (work .exit)) ⌝ }
 {
     let first = at + 1;
-    let end = put_names(s, site, work, first, found, e, d, url);
+    let end = put_names(s, site, places, work, first, found, e, d, url);
     put_word(work, at, (end - first) as u64);
     end
 }
@@ -184,6 +184,7 @@ fn put_limits(
 pub fn put_rule(
     s: &[u8],
     site: &[u8],
+    places: &[u64],
     work: &mut [u64],
     at: usize,
     entry: usize,
@@ -191,11 +192,11 @@ pub fn put_rule(
     d: Direction,
     url: usize,
 ) -> usize
-    requires { ⌜ (length (lines (now site) 0) ≤ 64) × (at ≤ 1800) × PartsOf (now s) entry e ⌝ }
+    requires { ⌜ PlacesOf (now site) (now places) × (at ≤ 1800) × PartsOf (now s) entry e ⌝ }
     ensures { λ r. ⌜ Put (now (work .entry)) at (ruleWords d (now (site .entry)) (bytesAt (now (s .entry)) url) (treeAt 10 (now (s .entry)) entry)) r (now (work .exit)) ⌝ }
 {
     let found = e.matches;
     let row = row_of(s, is_accepted(s, entry, e), found, e, d);
     let p = put_row(work, at, row);
-    put_limits(s, site, work, p, found, e, d, url)
+    put_limits(s, site, places, work, p, found, e, d, url)
 }

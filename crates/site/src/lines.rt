@@ -1,7 +1,7 @@
 // One line of the site table.
 use text::networks::Block;
 ghost use mathlib.Core.Path.{_≡_};
-ghost use Prim.Native.Nat.{_+_, _-_};
+ghost use Prim.Native.Nat.{_+_};
 ghost use lib.ListN.{drop};
 ghost use Rattle.site.specs.Line.{wordAt, kindAt, suits, nameLength, nameOk, restAt, lineAt};
 

@@ -1,5 +1,5 @@
 -- SHUT OUT BY NAME (document 01, 'How much each promise must say'): no builder that keeps the promise is one of these. Assumes nothing.
-use Prim.Native.Nat.{ℕ, _-_}
+use Prim.Native.Nat.{ℕ}
 use mathlib.Core.Path.{_≡_, sym, ap, _∙_}
 use mathlib.Core.List.{List, [], _∷_}
 use native.Mathlib.Omega.{arith}

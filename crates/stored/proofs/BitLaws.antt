@@ -10,7 +10,6 @@ use borrow.Author.Needs.{needs}
 use Rattle.text.specs.Bytes.{between}
 use Rattle.text.specs.Written.{decimal}
 use Rattle.text.proofs.WrittenLaws.{decimal-one}
-use Rattle.flows.specs.Table.{_to_}
 use Rattle.stored.specs.declared.lines.Ends.{Ends}
 use Rattle.stored.specs.declared.lines.Ends.the-variants.{Between, NoRange}
 use Rattle.stored.specs.Chunks.{FourAt}

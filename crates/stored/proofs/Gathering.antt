@@ -46,13 +46,6 @@ lines-fit (suc k) s at h = go (lineAt s at) refl (λ n m. lines-fit k s n m)
     go NoLine e f = rw (lines-none s at e) tt
     go (Got l n) e f = let m : SoundLine s at l n = got-sound s at e in rw (lines-got s at e) (m .inside, f n (omega (arith, m .further, m .within)))
 
--- the mark of a line that ends at a place
-pub mark-is : (x y : Line) (e r : ℕ) → Related x y r → ((e * 64 + r) / 64 ≡ e) × Related x y ((e * 64 + r) % 64)
-mark-is x y e r h =
-    let a : (e * 64 + r) / 64 ≡ e = omega (arith, h .small) in
-    let b : (e * 64 + r) % 64 ≡ r = omega (arith, h .small) in
-    (a, rw b h)
-
 pub gather-start : (s : List ℕ) (p : Point) (ms : List ℕ) (x : struct.Line) → length ms ≡ 512 → Gathering s p ms 0 0 x false
 gather-start s p ms x h = record {
   long = h;
@@ -176,7 +169,7 @@ module _ (l : struct.Line) (f : numbers.Numbers) (z₀ : Bool) (e₀ : z₀ ≡ 
             unfolding ranges inLine
             holds-5 = rw (← e₀, not-false z₀ u₀, ← e₁, not-false z₁ u₁, ← e₂, not-false z₂ u₂, ← e₃, not-false z₃ u₃, ← e₄, not-false z₄ u₄, ← e₅) (sym (and-true z₅))
 
-pub ruleset gathering = (needs, mark-is, gather-start, gather-room, gather-full, gather-none, gather-place, gather-more, in-from, in-not, holds-0, holds-1, holds-2, holds-3, holds-4, holds-5)
+pub ruleset gathering = (needs, gather-start, gather-full, gather-none, gather-place, gather-more, in-from, in-not, holds-0, holds-1, holds-2, holds-3, holds-4, holds-5)
 
 -- ## zeros
 module _ (s : List ℕ) (i : ℕ) (w : Bool) (e : w ≡ allZero (drop i s)) where

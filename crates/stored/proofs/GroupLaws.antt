@@ -1,5 +1,5 @@
 -- Laws of the groups of lines: which lines are of a group, and what the runs of a group are. Assumes nothing.
-use Prim.Native.Nat.{ℕ, zero, suc, _-_, _≤_, _<_}
+use Prim.Native.Nat.{ℕ, zero, suc, _≤_, _<_}
 use mathlib.Core.Path.{_≡_, refl, ap, sym, _∙_, subst}
 use mathlib.Core.List.{List, [], _∷_}
 use mathlib.Core.Bool.{Bool, true, false, _&&_}
@@ -10,11 +10,10 @@ use lib.Dec.{eqb, leb}
 use borrow.Author.Tests.{eq-eqb, eqb-true, leb-true, leb-false, le-leb, lt-leb}
 use Rattle.text.proofs.Tests.{by-test, and-left, and-right, both, clash}
 use Rattle.flows.specs.Table.{Range, _to_, Run, run, Line, Table, eqRange}
-use Rattle.flows.specs.Canonical.{group, push}
+use Rattle.flows.specs.Canonical.{group, push, AllLines, lowEnd, highEnd}
 use Rattle.flows.proofs.Equal.{eqRange-eq, eqRange-refl}
-use Rattle.flows.proofs.Stored.{AllLines}
 use Rattle.stored.specs.Text.{nth}
-use Rattle.stored.specs.Groups.{differOf, under, past, top, bottom}
+use Rattle.stored.specs.Groups.{differOf, under, past}
 
 -- ## two lines
 
@@ -111,7 +110,7 @@ past-head d x y (l ∷ t) u e =
 by-le {ℓ} : {P : Type ℓ} (d n : ℕ) → (d ≤ n → P) → (n < d → P) → P
 by-le d n f g = by-test (leb d n) (λ e. f (leb-true d n e)) (λ e. g (leb-false d n e))
 
-pub group-head : (r : Range) (m : Line) (u : Table) → group ((r ∷ m) ∷ u) ≡ push (bottom r) (top r) m (group u)
+pub group-head : (r : Range) (m : Line) (u : Table) → group ((r ∷ m) ∷ u) ≡ push (lowEnd r) (highEnd r) m (group u)
 unfolding group
 group-head (a to b) m u = refl
 
@@ -119,7 +118,7 @@ push-same : (a b : ℕ) (m : Line) (t : Table) (rs : List Run) → push a b m (r
 unfolding push
 push-same a b m t rs = rw (both (eqb a a) (eqb b b) (eq-eqb a a refl) (eq-eqb b b refl), push)
 
-push-apart : (p q : Range) (m n : Line) (rs : List Run) → eqRange p q ≡ false → push (bottom p) (top p) m (push (bottom q) (top q) n rs) ≡ run (bottom p) (top p) (m ∷ []) ∷ push (bottom q) (top q) n rs
+push-apart : (p q : Range) (m n : Line) (rs : List Run) → eqRange p q ≡ false → push (lowEnd p) (highEnd p) m (push (lowEnd q) (highEnd q) n rs) ≡ run (lowEnd p) (highEnd p) (m ∷ []) ∷ push (lowEnd q) (highEnd q) n rs
 unfolding push eqRange
 push-apart (a to b) (c to d) m n [] e = rw (e, push)
 push-apart (a to b) (c to d) m n (run f g t ∷ rs) e =
@@ -142,13 +141,13 @@ module _ (d : ℕ) (l y : Line) (n : d < 6) (ly : d ≤ differOf l y) (sy : Six 
       under-in d l x t (alike-trans d l y x ly (omega arith))
       ∙ rw (cons-of d x (omega arith), nth-same d y x (omega arith) (omega arith) h)
 
-  pub group-under : (x : Line) (t : Table) → Six x → AllLines Six t → suc d ≤ differOf y x → group (under d l (x ∷ t)) ≡ run (bottom (nth y d)) (top (nth y d)) (drop (suc d) x ∷ under (suc d) y t) ∷ group (under d l (past (suc d) y t))
+  pub group-under : (x : Line) (t : Table) → Six x → AllLines Six t → suc d ≤ differOf y x → group (under d l (x ∷ t)) ≡ run (lowEnd (nth y d)) (highEnd (nth y d)) (drop (suc d) x ∷ under (suc d) y t) ∷ group (under d l (past (suc d) y t))
   unfolding under past group push
   group-under x [] sx a h = rw (first-line x [] sx h, group-head)
   group-under x (z ∷ t) sx a h =
       by-le (suc d) (differOf y z)
       (λ k. rw (first-line x (z ∷ t) sx h, group-head, under-in (suc d) y z t k, past-in (suc d) y z t k, group-under z t (a .0) (a .1) k)
-      (push-same (bottom (nth y d)) (top (nth y d)) (drop (suc d) x) (drop (suc d) z ∷ under (suc d) y t) (group (under d l (past (suc d) y t)))))
+      (push-same (lowEnd (nth y d)) (highEnd (nth y d)) (drop (suc d) x) (drop (suc d) z ∷ under (suc d) y t) (group (under d l (past (suc d) y t)))))
       (λ k. rw (first-line x (z ∷ t) sx h, group-head, under-out (suc d) y z t k, past-out (suc d) y z t k)
       (by-le d (differOf l z)
       (λ j. let b : d ≤ differOf y l = rw (differ-sym y l) ly in

@@ -11,12 +11,11 @@ use mathlib.Core.Logic.{_⊎_, inl, inr}
 use borrow.Author.Tests.{eqb-true}
 use borrow.Author.Needs.{needs}
 use Rattle.text.proofs.Tests.{and-left, and-right, or-split}
-use Rattle.flows.specs.Canonical.{flowEnds, flowLine}
+use Rattle.flows.specs.Canonical.{flowEnds, flowLine, LineIn}
 use Rattle.text.specs.Written.{decimal, quad, Put}
 use Rattle.text.proofs.WrittenLaws.{andThen, length-below, quad-short}
 use Rattle.flows.specs.Table.{_to_, Line, Table}
 use Rattle.flows.specs.Flow.{widths}
-use Rattle.flows.proofs.Stored.{LineIn}
 use Rattle.stored.specs.declared.lines.Line as struct
 use Rattle.stored.specs.Line.{ranges}
 use Rattle.stored.proofs.Spelling.{Read-as, as-read}

@@ -1,5 +1,5 @@
 -- Laws of the lines that are read from a text. Assumes nothing.
-use Prim.Native.Nat.{ℕ, _-_, _/_, _%_, _≤_, _<_}
+use Prim.Native.Nat.{ℕ, _/_, _%_, _≤_, _<_}
 use mathlib.Core.Path.{_≡_, ap, sym, subst}
 use mathlib.Core.List.{List, [], _∷_}
 use mathlib.Core.Bool.{true, cond}
@@ -16,8 +16,7 @@ use Rattle.text.proofs.NumberLaws.{Sound, number-sound, closed-sound, quad-soun
 use Rattle.text.proofs.Walk.{Onward, walk-turn, walk-end}
 use Rattle.flows.specs.Table.{Line}
 use Rattle.flows.specs.Flow.{widths}
-use Rattle.flows.specs.Canonical.{flowLine}
-use Rattle.flows.proofs.Stored.{LineIn}
+use Rattle.flows.specs.Canonical.{flowLine, LineIn}
 use Rattle.stored.specs.declared.lines.Line as struct
 use Rattle.stored.specs.declared.lines.Ends.{Ends}
 use Rattle.stored.specs.declared.lines.Ends.the-variants.{Between, NoRange}

@@ -1,5 +1,5 @@
 -- Tables and their bytes: what is written is read back, and what is read was written so. Assumes nothing.
-use Prim.Native.Nat.{ℕ, zero, suc, _+_, _-_, _≤_, _<_}
+use Prim.Native.Nat.{ℕ, zero, suc, _-_, _≤_, _<_}
 use mathlib.Core.Path.{_≡_, refl, ap, sym, _∙_, subst}
 use mathlib.Core.List.{List, [], _∷_, _++_, append-assoc}
 use mathlib.Core.Bool.{true, cond}
@@ -13,11 +13,11 @@ use Rattle.text.specs.Numbers.{numberAt, closedBy}
 use Rattle.text.proofs.Tests.{and-left, and-right, both, split}
 use Rattle.flows.specs.Table.{Point, Set, Line, Table, within, tableOf}
 use Rattle.flows.specs.Flow.{widths, isFlow}
-use Rattle.flows.specs.Canonical.{canonical, flowLine, allLines, tableOfFlows}
+use Rattle.flows.specs.Canonical.{canonical, flowLine, allLines, tableOfFlows, LineIn}
 use Rattle.flows.specs.Numbers.{pointOf}
 use Rattle.flows.specs.declared.Numbers as numbers
 use Rattle.flows.proofs.Meaning.{in-table}
-use Rattle.flows.proofs.Stored.{LineIn, table-lines, table-of-some-flows}
+use Rattle.flows.proofs.Stored.{table-lines, table-of-some-flows}
 use Rattle.stored.specs.declared.lines.Line as struct
 use Rattle.stored.specs.declared.lines.Half.the-variants.{Three, NoHalf}
 use Rattle.stored.specs.declared.lines.Read.{Read}

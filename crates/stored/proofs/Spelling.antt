@@ -1,5 +1,5 @@
 -- How lines are spelt: what is read is spelt so, and what is spelt is read. Assumes nothing.
-use Prim.Native.Nat.{ℕ, _+_, _-_, _/_, _%_, _≤_, _<_}
+use Prim.Native.Nat.{ℕ, _/_, _%_, _≤_, _<_}
 use mathlib.Core.Path.{_≡_, refl, ap, sym, _∙_, subst}
 use mathlib.Core.List.{List, [], _∷_, _++_, append-assoc}
 use mathlib.Core.Bool.{true, false}
@@ -17,7 +17,7 @@ use Rattle.text.proofs.NumberLaws.{Sound}
 use Rattle.text.proofs.ReadBack.{closed-spelt, closed-quad-spelt, closed-read, closed-quad-read}
 use Rattle.flows.specs.Table.{_to_, Line}
 use Rattle.flows.specs.Flow.{widths}
-use Rattle.flows.proofs.Stored.{LineIn}
+use Rattle.flows.specs.Canonical.{LineIn}
 use Rattle.stored.specs.declared.lines.Line as struct
 use Rattle.stored.specs.declared.lines.Ends.{Ends}
 use Rattle.stored.specs.declared.lines.Ends.the-variants.{Between, NoRange}

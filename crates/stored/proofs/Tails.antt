@@ -16,7 +16,7 @@ use Rattle.text.proofs.Tests.{by-test, clash, cond-cases}
 use Rattle.text.proofs.WordLaws.{same-iff}
 use Rattle.flows.specs.Table.{Range, _to_, Line, eqRange, eqLine}
 use Rattle.flows.specs.Flow.{widths}
-use Rattle.flows.proofs.Stored.{LineIn}
+use Rattle.flows.specs.Canonical.{LineIn}
 use Rattle.flows.proofs.Equal.{eqRange-eq, eqRange-refl}
 use Rattle.stored.specs.declared.lines.Line as struct
 use Rattle.stored.specs.declared.lines.Ends.the-variants.{Between}

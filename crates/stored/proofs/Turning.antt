@@ -13,12 +13,11 @@ use borrow.Author.Tests.{ltb-true, ltb-false, leb-true, leb-false, lt-ltb, le-lt
 use Rattle.text.proofs.Tests.{by-test, clash, split}
 use Rattle.flows.specs.Table.{Range, _to_, run, Line, Table, eqLine, eqTable}
 use Rattle.flows.specs.Flow.{widths}
-use Rattle.flows.specs.Canonical.{canonical, headed, rising, apart, filled, group}
-use Rattle.flows.proofs.Stored.{LineIn, AllLines}
+use Rattle.flows.specs.Canonical.{canonical, headed, rising, apart, filled, group, LineIn, AllLines, lowEnd, highEnd}
 use Rattle.stored.specs.Text.{nth}
 use Rattle.stored.specs.Line.{ranges}
 use Rattle.stored.specs.Words.{Fits}
-use Rattle.stored.specs.Groups.{row, rows, differOf, under, past, memberAt, top, bottom, follow, followAt, Next, Grouped}
+use Rattle.stored.specs.Groups.{row, rows, differOf, under, past, memberAt, follow, followAt, Next, Grouped}
 use Rattle.stored.specs.Marks.{stepOf, Related, Marked, markedIn, sameBack}
 use Rattle.stored.specs.declared.groups.Ran.{Ran}
 use Rattle.stored.proofs.ReadLines.{got-sound}
@@ -124,12 +123,6 @@ module _ (s ms : List ℕ) (w : Table) (n : ℕ) (m : Marked s ms w n) (d a b : 
   }
 
   module _ (i j : ℕ) (p : Pairing w d a b i j) where
-    pub pair-first : i < length ms
-    pair-first = omega (arith, p .order, p .within, m .count, m .room)
-
-    pub pair-second : j < length ms
-    pair-second = omega (arith, p .within, m .count, m .room)
-
     place-in : (k : ℕ) → k < n → getD ms k 0 / 64 ≤ length s
     place-in k l = let e = m .each k l .ends in got-sound s (e .from) (e .read) .within
 
@@ -138,9 +131,6 @@ module _ (s ms : List ℕ) (w : Table) (n : ℕ) (m : Marked s ms w n) (d a b : 
 
     pub pair-place-second : (y : ℕ) → y ≡ getD ms j 0 / 64 → y ≤ length s
     pair-place-second y e = omega (arith, e, place-in j (omega (arith, p .within, m .count)))
-
-    pub pair-less : n - (j + 1) < n - j
-    pair-less = omega (arith, p .within, m .count)
 
     module _ (x y : ℕ) (ex : x ≡ getD ms i 0 / 64) (ey : y ≡ getD ms j 0 / 64) (o : 0 < d) (l : d ≤ 6) (z : Bool) (ez : z ≡ sameBack (6 - d) (reverse (take x s)) (reverse (take y s))) where
       tails : z ≡ eqLine (drop d (row w i)) (drop d (row w j))
@@ -189,7 +179,7 @@ module _ (s ms : List ℕ) (w : Table) (n : ℕ) (m : Marked s ms w n) (d a b : 
           test = on;
         }
 
-pub ruleset pairing = (needs, marked-out, marked-in, pair-start, pair-first, pair-second, pair-place-first, pair-place-second, pair-less, pair-other, pair-none, pair-short, pair-long, pair-on)
+pub ruleset pairing = (needs, marked-out, marked-in, pair-start, pair-place-first, pair-place-second, pair-other, pair-none, pair-short, pair-long, pair-on)
 
 -- ## one run after another
 byStep : ℕ → Bool → Bool
@@ -200,8 +190,8 @@ byStep (suc (suc k)) z = true
 steps : (p q : Range) (z : Bool) → follow p q z ≡ byStep (stepOf p q) z
 unfolding follow stepOf byStep
 steps p q z =
-    by-test (ltb (top p) (bottom q))
-    (λ e. by-test (eqb (bottom q) (suc (top p))) (λ f. rw (e, f)) (λ f. rw (e, f)))
+    by-test (ltb (highEnd p) (lowEnd q))
+    (λ e. by-test (eqb (lowEnd q) (suc (highEnd p))) (λ f. rw (e, f)) (λ f. rw (e, f)))
     (λ e. rw e)
 
 far : (v : ℕ) (z : Bool) → (v ≡ 0 → ⊥) → (v ≡ 1 → ⊥) → byStep v z ≡ true
@@ -211,12 +201,6 @@ far (suc zero) z f g = absurd (g refl)
 far (suc (suc v)) z f g = refl
 
 module _ (s ms : List ℕ) (w : Table) (n : ℕ) (m : Marked s ms w n) (d i k : ℕ) (x : Next d w i k) where
-  pub next-mark : k < length ms
-  next-mark = omega (arith, x .within, m .count, m .room)
-
-  pub next-pair : (i < k) × (k < n) × (0 < d + 1) × (d + 1 ≤ 6)
-  next-pair = (x .onward, omega (arith, x .within, m .count), omega arith, omega (arith, x .below))
-
   how : getD ms k 0 / 8 % 8 ≡ stepOf (nth (row w i) d) (nth (row w k) d)
   how =
       let r : Related (row w (k - 1)) (row w k) (getD ms k 0 % 64) = m .each k (omega (arith, x .within, m .count)) .related (omega (arith, x .onward)) in
@@ -245,7 +229,7 @@ module _ (s ms : List ℕ) (w : Table) (n : ℕ) (m : Marked s ms w n) (d i k : 
     unfolding byStep
     follow-other u = sym (follow-is z e ∙ rw (q, u))
 
-pub ruleset following = (needs, next-mark, next-pair, follow-low, follow-apart, follow-same, follow-other)
+pub ruleset following = (needs, follow-low, follow-apart, follow-same, follow-other)
 
 -- ## a group of one line
 module _ (s ms : List ℕ) (w : Table) (n : ℕ) (m : Marked s ms w n) (at : ℕ) (h : at < n) (b : Bool) (q : b ≡ markedIn 6 ms n (at + 1)) where
@@ -288,7 +272,7 @@ module _ (s ms : List ℕ) (w : Table) (n : ℕ) (m : Marked s ms w n) (at : ℕ
   }
 
 -- ## the runs of a group
-in-nth : (ws : List ℕ) (l : Line) (d : ℕ) → LineIn ws l → d < length ws → (bottom (nth l d) ≤ top (nth l d)) × (top (nth l d) < getD ws d 0)
+in-nth : (ws : List ℕ) (l : Line) (d : ℕ) → LineIn ws l → d < length ws → (lowEnd (nth l d) ≤ highEnd (nth l d)) × (highEnd (nth l d) < getD ws d 0)
 unfolding nth
 in-nth [] l d h k = absurd (omega arith)
 in-nth (w ∷ ws) [] d h k = absurd h
@@ -340,29 +324,29 @@ module _ (d : ℕ) (x : Line) (w : Table) (f : Fits w) (i : ℕ) (n : d < 6) (h 
   own : under (suc d) (row w i) (rows w i) ≡ drop (suc d) (row w i) ∷ under (suc d) (row w i) (rows w (i + 1))
   own = rw (rows-got w i h) (under-in (suc d) (row w i) (row w i) (rows w (i + 1)) deep)
 
-  first-run : group (under d x (rows w i)) ≡ run (bottom (nth (row w i) d)) (top (nth (row w i) d)) (under (suc d) (row w i) (rows w i)) ∷ group (under d x (past (suc d) (row w i) (rows w i)))
+  first-run : group (under d x (rows w i)) ≡ run (lowEnd (nth (row w i) d)) (highEnd (nth (row w i) d)) (under (suc d) (row w i) (rows w i)) ∷ group (under d x (past (suc d) (row w i) (rows w i)))
   first-run =
       rw (own, rows-got w i h, past-in (suc d) (row w i) (row w i) (rows w (i + 1)) deep)
       (group-under d x (row w i) n a (six w f i h) (row w i) (rows w (i + 1)) (six w f i h) (sixes w f (i + 1)) deep)
 
-  rising-from : (c : Table → Bool) (m k : ℕ) → k ≤ bottom (nth (row w i) d) → rising c m k (group (under d x (rows w i))) ≡ rising c m 0 (group (under d x (rows w i)))
+  rising-from : (c : Table → Bool) (m k : ℕ) → k ≤ lowEnd (nth (row w i) d) → rising c m k (group (under d x (rows w i))) ≡ rising c m 0 (group (under d x (rows w i)))
   unfolding rising
-  rising-from c m k l = rw (first-run, le-leb k (bottom (nth (row w i) d)) l, le-leb 0 (bottom (nth (row w i) d)) (omega arith))
+  rising-from c m k l = rw (first-run, le-leb k (lowEnd (nth (row w i) d)) l, le-leb 0 (lowEnd (nth (row w i) d)) (omega arith))
 
-  rising-low : (c : Table → Bool) (m k : ℕ) → bottom (nth (row w i) d) < k → rising c m k (group (under d x (rows w i))) ≡ false
+  rising-low : (c : Table → Bool) (m k : ℕ) → lowEnd (nth (row w i) d) < k → rising c m k (group (under d x (rows w i))) ≡ false
   unfolding rising
-  rising-low c m k l = rw (first-run, lt-leb k (bottom (nth (row w i) d)) l)
+  rising-low c m k l = rw (first-run, lt-leb k (lowEnd (nth (row w i) d)) l)
 
-  apart-first : (hi : ℕ) (t : Table) → apart hi t (group (under d x (rows w i))) ≡ not (eqb (bottom (nth (row w i) d)) (suc hi) && eqTable t (under (suc d) (row w i) (rows w i)))
+  apart-first : (hi : ℕ) (t : Table) → apart hi t (group (under d x (rows w i))) ≡ not (eqb (lowEnd (nth (row w i) d)) (suc hi) && eqTable t (under (suc d) (row w i) (rows w i)))
   unfolding apart
   apart-first hi t = rw first-run
 
-  runs-first : runsOf d x w i ≡ (canonical (drop (suc d) widths) (under (suc d) (row w i) (rows w i)) && (apart (top (nth (row w i) d)) (under (suc d) (row w i) (rows w i)) (group (under d x (past (suc d) (row w i) (rows w i)))) && rising (canonical (drop (suc d) widths)) (getD widths d 0) (suc (top (nth (row w i) d))) (group (under d x (past (suc d) (row w i) (rows w i))))))
+  runs-first : runsOf d x w i ≡ (canonical (drop (suc d) widths) (under (suc d) (row w i) (rows w i)) && (apart (highEnd (nth (row w i) d)) (under (suc d) (row w i) (rows w i)) (group (under d x (past (suc d) (row w i) (rows w i)))) && rising (canonical (drop (suc d) widths)) (getD widths d 0) (suc (highEnd (nth (row w i) d))) (group (under d x (past (suc d) (row w i) (rows w i))))))
   unfolding runsOf rising
   runs-first =
       let r = in-nth widths (row w i) d (all-row (LineIn widths) w f i h) n in
       let g : filled (under (suc d) (row w i) (rows w i)) ≡ true = unfold filled in rw own in
-      rw (first-run, le-leb 0 (bottom (nth (row w i) d)) (omega arith), le-leb (bottom (nth (row w i) d)) (top (nth (row w i) d)) (r .0), lt-ltb (top (nth (row w i) d)) (getD widths d 0) (r .1), g)
+      rw (first-run, le-leb 0 (lowEnd (nth (row w i) d)) (omega arith), le-leb (lowEnd (nth (row w i) d)) (highEnd (nth (row w i) d)) (r .0), lt-ltb (highEnd (nth (row w i) d)) (getD widths d 0) (r .1), g)
 
 and-false : (a : Bool) → (a && false) ≡ false
 and-false true = refl
@@ -397,7 +381,7 @@ module _ (d : ℕ) (x : Line) (w : Table) (at i : ℕ) (t : Turn d x w at i) (g 
     pub turn-within : g .end ≤ length w
     turn-within = h .within (not-false (g .good) u)
 
-    runs-next : runsOf d x w i ≡ (apart (top (nth (row w i) d)) (under (suc d) (row w i) (rows w i)) (group (under d x (rows w (g .end)))) && rising (canonical (drop (suc d) widths)) (getD widths d 0) (suc (top (nth (row w i) d))) (group (under d x (rows w (g .end)))))
+    runs-next : runsOf d x w i ≡ (apart (highEnd (nth (row w i) d)) (under (suc d) (row w i) (rows w i)) (group (under d x (rows w (g .end)))) && rising (canonical (drop (suc d) widths)) (getD widths d 0) (suc (highEnd (nth (row w i) d))) (group (under d x (rows w (g .end)))))
     runs-next = runs-first d x w (t .fits) i (t .below) (t .line) (t .alike) ∙ rw (← inner, not-false (g .good) u, places)
 
     pub turn-less : length w - g .end < length w - i
@@ -445,19 +429,16 @@ module _ (d : ℕ) (x : Line) (w : Table) (at i : ℕ) (t : Turn d x w at i) (g 
               (λ q. omega (arith, leb-false (suc d) (differOf (row w (g .end - 1)) (row w (g .end))) q));
         }
 
-        pub turn-again : g .end < n
-        turn-again = omega (arith, room, k .count)
-
         module _ (z : Bool) (e : z ≡ followAt d w i (g .end)) where
-          parts : z ≡ (ltb (top (nth (row w i) d)) (bottom (nth (row w (g .end)) d)) && apart (top (nth (row w i) d)) (under (suc d) (row w i) (rows w i)) (group (under d x (rows w (g .end)))))
+          parts : z ≡ (ltb (highEnd (nth (row w i) d)) (lowEnd (nth (row w (g .end)) d)) && apart (highEnd (nth (row w i) d)) (under (suc d) (row w i) (rows w i)) (group (under d x (rows w (g .end)))))
           unfolding followAt follow
-          parts = e ∙ rw (apart-first d x w (t .fits) (g .end) (t .below) room high (top (nth (row w i) d)) (under (suc d) (row w i) (rows w i)))
+          parts = e ∙ rw (apart-first d x w (t .fits) (g .end) (t .below) room high (highEnd (nth (row w i) d)) (under (suc d) (row w i) (rows w i)))
 
           pub turn-wrong : not z ≡ true → Grouped d x w at (record { good = false; end = g .end })
           turn-wrong y = record {
-            test = sym (whole ∙ (runs-next ∙ by-test (ltb (top (nth (row w i) d)) (bottom (nth (row w (g .end)) d)))
-                (λ p. let r : apart (top (nth (row w i) d)) (under (suc d) (row w i) (rows w i)) (group (under d x (rows w (g .end)))) ≡ false = (rw p at (sym parts)) ∙ not-true z y in rw r)
-                (λ p. rw (rising-low d x w (t .fits) (g .end) (t .below) room high (canonical (drop (suc d) widths)) (getD widths d 0) (suc (top (nth (row w i) d))) (omega (arith, ltb-false (top (nth (row w i) d)) (bottom (nth (row w (g .end)) d)) p))) (and-false (apart (top (nth (row w i) d)) (under (suc d) (row w i) (rows w i)) (group (under d x (rows w (g .end)))))))));
+            test = sym (whole ∙ (runs-next ∙ by-test (ltb (highEnd (nth (row w i) d)) (lowEnd (nth (row w (g .end)) d)))
+                (λ p. let r : apart (highEnd (nth (row w i) d)) (under (suc d) (row w i) (rows w i)) (group (under d x (rows w (g .end)))) ≡ false = (rw p at (sym parts)) ∙ not-true z y in rw r)
+                (λ p. rw (rising-low d x w (t .fits) (g .end) (t .below) room high (canonical (drop (suc d) widths)) (getD widths d 0) (suc (highEnd (nth (row w i) d))) (omega (arith, ltb-false (highEnd (nth (row w i) d)) (lowEnd (nth (row w (g .end)) d)) p))) (and-false (apart (highEnd (nth (row w i) d)) (under (suc d) (row w i) (rows w i)) (group (under d x (rows w (g .end)))))))));
             rest = λ j. clash j refl;
             further = λ j. clash j refl;
             within = λ j. clash j refl;
@@ -467,11 +448,11 @@ module _ (d : ℕ) (x : Line) (w : Table) (at i : ℕ) (t : Turn d x w at i) (g 
           pub turn-on : not z ≡ false → Turn d x w at (g .end)
           unfolding runsOf
           turn-on y =
-              let p = split (ltb (top (nth (row w i) d)) (bottom (nth (row w (g .end)) d))) (apart (top (nth (row w i) d)) (under (suc d) (row w i) (rows w i)) (group (under d x (rows w (g .end))))) (sym parts ∙ not-false z y) in
+              let p = split (ltb (highEnd (nth (row w i) d)) (lowEnd (nth (row w (g .end)) d))) (apart (highEnd (nth (row w i) d)) (under (suc d) (row w i) (rows w i)) (group (under d x (rows w (g .end))))) (sym parts ∙ not-false z y) in
               record {
                 line = room;
                 alike = high;
-                test = t .test ∙ (runs-next ∙ rw (p .1) (rising-from d x w (t .fits) (g .end) (t .below) room high (canonical (drop (suc d) widths)) (getD widths d 0) (suc (top (nth (row w i) d))) (omega (arith, ltb-true (top (nth (row w i) d)) (bottom (nth (row w (g .end)) d)) (p .0)))));
+                test = t .test ∙ (runs-next ∙ rw (p .1) (rising-from d x w (t .fits) (g .end) (t .below) room high (canonical (drop (suc d) widths)) (getD widths d 0) (suc (highEnd (nth (row w i) d))) (omega (arith, ltb-true (highEnd (nth (row w i) d)) (lowEnd (nth (row w (g .end)) d)) (p .0)))));
                 rest = behind;
                 onward = omega (arith, turn-further, t .onward);
                 below = t .below;
@@ -494,4 +475,4 @@ table-none s ms w n m h = sym (ap (canonical widths) (rows-none w 0 (omega (arit
 pub table-is : (w : Table) (g : Ran) → Grouped 0 (row w 0) w 0 g → g .good ≡ canonical widths w
 table-is w g h = h .test ∙ ap (canonical widths) (under-all (row w 0) w)
 
-pub ruleset walking = (needs, grouped-six, single-alone, single-twice, turn-start, turn-bad, turn-out, turn-next, turn-wrong, turn-on, turn-less, turn-within, turn-again, table-none, table-is)
+pub ruleset walking = (needs, grouped-six, single-alone, single-twice, turn-start, turn-bad, turn-out, turn-next, turn-wrong, turn-on, turn-less, table-none, table-is)

@@ -5,9 +5,9 @@ use mathlib.Core.List.{[], _∷_}
 use mathlib.Core.Bool.{Bool, true, false, _&&_, not}
 use lib.ListN.{length, getD, drop}
 use lib.Dec.{ltb, leb, eqb}
-use Rattle.flows.specs.Table.{Range, _to_, Line, Table, eqRange, eqTable}
+use Rattle.flows.specs.Table.{Range, Line, Table, eqRange, eqTable}
 use Rattle.flows.specs.Flow.{widths}
-use Rattle.flows.specs.Canonical.{canonical}
+use Rattle.flows.specs.Canonical.{canonical, lowEnd, highEnd}
 use Rattle.stored.specs.Text.{nth}
 use Rattle.stored.specs.declared.groups.Ran.{Ran}
 
@@ -37,15 +37,9 @@ past d x (l ∷ t) = elim (leb d (differOf x l)) [ true ↦ past d x t | false �
 unfoldable pub memberAt : ℕ → Line → Table → ℕ → Bool
 memberAt d x t at = ltb at (length t) && leb d (differOf x (row t at))
 
-abbrev pub top : Range → ℕ
-top (a to b) = b
-
-abbrev pub bottom : Range → ℕ
-bottom (a to b) = a
-
 -- the group of the line at k may follow that of the line at i: higher in range d, and not the same after it where they touch
 unfoldable pub follow : Range → Range → Bool → Bool
-follow p q same = ltb (top p) (bottom q) && not (eqb (bottom q) (suc (top p)) && same)
+follow p q same = ltb (highEnd p) (lowEnd q) && not (eqb (lowEnd q) (suc (highEnd p)) && same)
 
 unfoldable pub followAt : ℕ → Table → ℕ → ℕ → Bool
 followAt d t i k =

@@ -6,18 +6,19 @@ use mathlib.Core.Bool.{Bool, true, _&&_, _||_, cond}
 use lib.ListN.{length, getD, drop}
 use lib.Dec.{ltb, leb, eqb}
 use Rattle.flows.specs.Table.{Range, Line, Table, Point, inTable}
+use Rattle.flows.specs.Canonical.{lowEnd, highEnd}
 use Rattle.stored.specs.Text.{nth}
 use Rattle.stored.specs.Line.{lineAt, ranges}
 use Rattle.stored.specs.Stored.{lines, stop}
 use Rattle.stored.specs.Words.{Fits}
-use Rattle.stored.specs.Groups.{row, differOf, top, bottom}
+use Rattle.stored.specs.Groups.{row, differOf}
 use Rattle.stored.specs.declared.lines.Line as struct
 use Rattle.stored.specs.declared.lines.Read.the-variants.{Got, NoLine}
 use Rattle.stored.specs.declared.verdict.Gathered.{Gathered}
 
 -- how a range stands to the one before it: 0 not above it, 1 next to it, 2 further up
 unfoldable pub stepOf : Range → Range → ℕ
-stepOf p q = cond (ltb (top p) (bottom q)) (cond (eqb (bottom q) (suc (top p))) 1 2) 0
+stepOf p q = cond (ltb (highEnd p) (lowEnd q)) (cond (eqb (lowEnd q) (suc (highEnd p))) 1 2) 0
 
 -- the number of two lines one after the other: the first dimension in which they differ, and eight times how the ranges stand there
 pub record Related (x y : Line) (r : ℕ) : Type 0 where

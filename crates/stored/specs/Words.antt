@@ -2,7 +2,7 @@
 use Prim.Native.Nat.{ℕ, _+_, _*_, _/_, _%_}
 use Rattle.flows.specs.Table.{Range, _to_, Table}
 use Rattle.flows.specs.Flow.{widths}
-use Rattle.flows.proofs.Stored.{LineIn, AllLines}
+use Rattle.flows.specs.Canonical.{LineIn, AllLines}
 
 abbrev pub wordOf : ℕ → ℕ → ℕ
 wordOf lo hi = lo * 4294967296 + hi

@@ -1,6 +1,6 @@
 -- What is written is read back, and what is read is written so. Assumes nothing.
 use Prim.Native.Nat.{ℕ, zero, suc, _+_, _*_, _-_, _/_, _%_, _≤_, _<_}
-use mathlib.Core.Path.{_≡_, refl, ap, sym, _∙_, subst}
+use mathlib.Core.Path.{_≡_, refl, ap, sym, _∙_}
 use mathlib.Core.List.{List, [], _∷_, _++_, append-assoc, cons≢nil}
 use mathlib.Core.Bool.{Bool, true, false}
 use native.Mathlib.Numerals.{add-one}
@@ -17,7 +17,7 @@ use Rattle.text.specs.declared.numbers.Digits.{Digits}
 use Rattle.text.specs.declared.numbers.Digits.the-variants.{Number, NoNumber}
 use Rattle.text.proofs.Tests.{by-test}
 use Rattle.text.proofs.ByteLaws.{inside, between-low, between-high, between-is, digit-inside, at-inside, at-is, at-from}
-use Rattle.text.proofs.NumberLaws.{Sound, number-sound, number-small, part-small}
+use Rattle.text.proofs.NumberLaws.{number-small, part-small}
 use Rattle.text.proofs.WrittenLaws.{decimal-one, decimal-more}
 
 -- ## places
@@ -102,13 +102,6 @@ number-spelt max s at v n q =
     let r = digits-spelt max s (drop (at + 1) s) (byteAt s at - 0x30) (at + 1) v n (omega arith) refl (rw (e, d) at q) in
     (drop-cons s at 0 (digit-inside s at d) ∙ (ap {B = List ℕ} (λ t. t ++ drop (suc at) s) (sym st) ∙ (rw (← add-one at) (r .0))), r .1))
     (λ d. absurd (let z : Number v n ≡ NoNumber = rw (e, d) at q in let w : _≡_ {A = ℕ} 0 1 = cc in omega arith)))
-
--- the place after a number is as far on as its digits
-pub number-place : (max : ℕ) (s : List ℕ) (at v n : ℕ) → Number v n ≡ numberAt max s at → n ≡ at + length (decimal v)
-number-place max s at v n q =
-    let b : Sound max s at (Number v n) = subst (Sound max s at) (sym q) (number-sound max s at) in
-    let e : length s - at ≡ length (decimal v) + (length s - n) = simp (length-append, length-drop) at (ap length (number-spelt max s at v n q .0)) in
-    omega (arith, b .1, b .2)
 
 -- what closes it
 closing-spelt : (c : ℕ) (s : List ℕ) (r : Digits) (v n : ℕ) → Number v n ≡ closedBy c s r → record { i : ℕ; is : Number v i ≡ r; here : drop i s ≡ c ∷ drop n s }

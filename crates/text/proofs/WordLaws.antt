@@ -2,39 +2,18 @@
 use Prim.Native.Nat.{ℕ, suc, _+_, _-_, _≤_, _<_}
 use mathlib.Core.Path.{_≡_, refl, sym, ap, _∙_}
 use mathlib.Core.Logic.{_↔_}
-use mathlib.Core.List.{List, [], _∷_, cons≢nil}
+use mathlib.Core.List.{List, [], _∷_}
 use mathlib.Core.Bool.{Bool, true, false}
 use native.Mathlib.Nat.{add-zero, add-suc}
 use native.Mathlib.Numerals.{add-one}
 use native.Mathlib.Omega.{arith}
 use lib.Dec.{eqb}
-use lib.ListN.{length, take, drop, getD, drop-of-length-le, length-drop}
+use lib.ListN.{length, drop, getD, drop-of-length-le, length-drop}
 use lib.Seq.{drop-cons}
 use borrow.Author.Needs.{needs}
 use borrow.Author.Tests.{eqb-true, eq-eqb, ne-eqb}
 use Rattle.text.specs.Words.{starts, hasAt, sameBytes}
 use Rattle.text.proofs.Tests.{and-left, and-right, and-false, clash}
-
--- a word stands at a place just when the part of the text there is the word
-starts-take : (w s : List ℕ) → starts w s ≡ true → take (length w) s ≡ w
-starts-take [] s h = refl
-starts-take (x ∷ w) [] h = clash {b = false} h refl
-starts-take (x ∷ w) (y ∷ s) h =
-    let e : y ≡ x = eqb-true y x (and-left (eqb y x) (starts w s) h) in
-    let t : take (length w) s ≡ w = starts-take w s (and-right (eqb y x) (starts w s) h) in
-    cc
-
-take-starts : (w s : List ℕ) → take (length w) s ≡ w → starts w s ≡ true
-take-starts [] s h = refl
-take-starts (x ∷ w) [] h = absurd (cons≢nil (sym h))
-take-starts (x ∷ w) (y ∷ s) h =
-    let e : y ≡ x = cc in
-    let t : take (length w) s ≡ w = cc in
-    rw (eq-eqb y x e) (take-starts w s t)
-
-pub hasAt-iff : (s : List ℕ) (at : ℕ) (w : List ℕ) → hasAt s at w ≡ true ↔ take (length w) (drop at s) ≡ w
-unfolding hasAt
-hasAt-iff s at w = (starts-take w (drop at s), take-starts w (drop at s))
 
 -- two texts are the same just when they are equal
 same-equal : (a b : List ℕ) → sameBytes a b ≡ true → a ≡ b

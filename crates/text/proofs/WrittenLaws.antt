@@ -1,5 +1,5 @@
 -- Laws of `specs/Written.antt`: digits, lengths, and lists put one after the other. Assumes nothing.
-use Prim.Native.Nat.{ℕ, zero, suc, _+_, _*_, _-_, _/_, _%_, _^_, _≤_, _<_}
+use Prim.Native.Nat.{ℕ, zero, suc, _+_, _*_, _/_, _%_, _^_, _≤_, _<_}
 use mathlib.Core.Path.{_≡_, _∙_}
 use mathlib.Core.List.{List, [], _∷_, _++_, append-assoc}
 use native.Mathlib.Nat.{add-zero, add-suc, suc-add, pow-suc}
@@ -87,11 +87,7 @@ pub quad-length : (a : ℕ) → length (quad a) ≡ length (decimal (a / 1677721
 unfolding quad
 quad-length a = simp length-append (omega arith)
 
--- a quad has 7 to 15 bytes
-pub quad-long : (a : ℕ) → 7 ≤ length (quad a)
-quad-long a =
-    omega (arith, quad-length a, length-some (a / 16777216), length-some (a / 65536 % 256), length-some (a / 256 % 256), length-some (a % 256))
-
+-- a quad has at most 15 bytes
 pub quad-short : (a : ℕ) → a ≤ 0xFFFFFFFF → length (quad a) ≤ 15
 quad-short a h =
     let p : length (decimal (a / 16777216)) ≤ 3 = length-below 2 (a / 16777216) (omega arith) in

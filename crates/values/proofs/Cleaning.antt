@@ -74,12 +74,6 @@ and-true : (a : Bool) → (a && true) ≡ a
 and-true true = refl
 and-true false = refl
 
-pub both-yes : (a b : Bool) → a ≡ true → b ≡ (a && b)
-both-yes a b q = rw q
-
-pub both-no : (a b : Bool) → a ≡ false → false ≡ (a && b)
-both-no a b q = rw q
-
 -- a member's name, after it was entered
 module _ (d : ℕ) (s : List ℕ) (j : ℕ) (r : Entry) where
   pub fine-kept : r ≡ Kept → (i : ℕ) → nameAt s j ≡ bytesAt s i → {f : Bool} → f ≡ allBytes (bytesAt s i) → f ≡ fineOf (allBytes (nameAt s j)) (absent (nameAt s j) (membersAfter d s j)) r
@@ -108,7 +102,7 @@ module _ (s : List ℕ) (at : ℕ) {r : Read} (e : r ≡ stringAt s at) where
   pub string-checked : {k : ℕ} → r ≡ End k → {x : Bool} → x ≡ allBytes (bytesAt s at) → Value k x ≡ checkedOf (stringAt s at) (allBytes (bytesAt s at))
   string-checked q u = rw (← e, q, u)
 
-pub ruleset checking = (needs, both-yes, both-no, fine-kept, fine-full, fine-known, string-refused, string-checked)
+pub ruleset checking = (needs, fine-kept, fine-full, fine-known, string-refused, string-checked)
 
 -- an array: what was read so far, and whether it is clean
 pub record Elementing (d : ℕ) (s : List ℕ) (at : ℕ) (a₀ a : List ℕ) (lo j : ℕ) (good : Bool) : Type 0 where

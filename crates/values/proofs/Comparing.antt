@@ -87,9 +87,6 @@ module _ (s : List ℕ) (a : ℕ) (l : a < length s) {t : Bool} (e : t ≡ isRaw
         there = omega arith;
       }
 
-pub sharing-end : (s : List ℕ) (i j n a b : ℕ) → Sharing s i j n a b → Common s i j n
-sharing-end s i j n a b h = h .so-far
-
 pub record Beginning (s : List ℕ) (i : ℕ) (w : List ℕ) (n a : ℕ) : Type 0 where
   pub so-far : Begun s i w n
   pub here : a ≡ i + n
@@ -112,10 +109,7 @@ module _ (s : List ℕ) (a : ℕ) {b : ℕ} (f : b ≡ getD s a 0) {t : Bool} (e
         here = omega arith;
       }
 
-pub beginning-end : (s : List ℕ) (i : ℕ) (w : List ℕ) (n a : ℕ) → Beginning s i w n a → Begun s i w n
-beginning-end s i w n a h = h .so-far
-
-pub ruleset sharing = (needs, not-false, sharing-from, there-fits, sharing-on, sharing-end, beginning-from, raw-fits, beginning-on, beginning-end)
+pub ruleset sharing = (needs, not-false, sharing-from, there-fits, sharing-on, beginning-from, raw-fits, beginning-on)
 
 -- what is left of a string, byte by byte
 pub first-nil : (s : List ℕ) (p : Piece) → firstOf p ≡ Nil → before p (bytesAt s) ≡ []

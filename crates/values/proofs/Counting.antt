@@ -78,9 +78,6 @@ pub record Counting (s : List ℕ) (at e n i : ℕ) : Type 0 where
   pub within-cap : n ≤ 1000000
   pub same-value : capped (decimal 0 (take (e - at) (drop at s))) ≡ capped (decimal n (take (e - i) (drop i s)))
 
-pub counting-from : (s : List ℕ) (at e : ℕ) → e ≡ spanAt isDigit s at → Counting s at e 0 at
-counting-from s at e q = record { run = q; within-cap = omega arith; same-value = refl }
-
 module _ (s : List ℕ) (at e n i : ℕ) (h : Counting s at e n i) (l : i < e) where
   pub counting-inside : i < length s
   counting-inside = run-digit s i e (h .run) l .0
@@ -181,4 +178,4 @@ module _ (low high : ℕ) (c : Count) where
   pub range-not : c ≡ Not → false ≡ within low high c
   range-not q = rw q
 
-pub ruleset counting = (needs, range-is, range-low, range-not, not-true, not-false, end-is, end-bad, cap-low, cap-high, counting-from, counting-inside, counting-digit, counting-on, counting-end, count-not, count-real, count-is, count-from)
+pub ruleset counting = (needs, range-is, range-low, range-not, not-true, not-false, end-is, end-bad, cap-low, cap-high, counting-inside, counting-digit, counting-on, counting-end, count-not, count-real, count-is, count-from)

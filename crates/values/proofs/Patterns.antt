@@ -1,9 +1,10 @@
 -- Laws of rules over a tree, for any rule: a caller's loop over elements or members is proved by these. Assumes nothing.
-use Prim.Native.Nat.{ℕ, _+_, _-_}
+use Prim.Native.Nat.{ℕ, _+_, _≤_}
 use mathlib.Core.Path.{_≡_, refl, ap, sym, _∙_}
-use mathlib.Core.List.{List}
+use mathlib.Core.List.{List, []}
 use mathlib.Core.Bool.{Bool, true, false, _&&_}
-use lib.ListN.{getD}
+use native.Mathlib.Omega.{arith}
+use lib.ListN.{length, getD, List·getD-eq-default}
 use borrow.Author.Needs.{needs}
 use borrow.Author.Tests.{not-true, not-false}
 use Rattle.json.specs.declared.Next.{Next}
@@ -12,10 +13,10 @@ use Rattle.json.specs.Reading.{isSpace, spanAt, elementAt, memberAt, valueAt}
 use Rattle.json.proofs.Runs.{past-is}
 use Rattle.values.specs.declared.Found.{Found}
 use Rattle.values.specs.declared.Found.the-variants.{At, Missing}
-use Rattle.values.specs.declared.Count.{Count}
-use Rattle.values.specs.Decode.{bytesAt}
-use Rattle.values.specs.Tree.{Json, element, nameAt, treeAt, Maybe, none, some, lookup, seen, countOf, elementsFrom, elementsAfter, membersFrom, membersAfter, items, fields, itemsFrom, fieldsFrom}
-use Rattle.values.specs.Rules.{must, may, within, text, all, firstWith, allNames}
+use Rattle.values.specs.Decode.{pieceAt, bytesAt}
+use Rattle.values.specs.Tree.{Json, element, nameAt, treeAt, Maybe, none, some, lookup, seen, elementsFrom, elementsAfter, membersFrom, membersAfter, items, itemsFrom}
+use Rattle.values.specs.Rules.{must, may, inside, bytesIn, StringAt, text, all, firstWith, allNames}
+use Rattle.values.proofs.Decoding.{string-turn}
 use Rattle.values.proofs.Trees.{tree-string, tree-kinds}
 use Rattle.values.proofs.Walking.{members-turn, elements-turn, after-done, after-wrong, after-more, element-after-done, element-after-wrong, element-after-more, element-less, member-less}
 
@@ -34,6 +35,14 @@ module _ (w : List ℕ) (j : Json) (d : ℕ) (s : List ℕ) (r : Found) (e : loo
     pub may-some : b ≡ may (lookup w j) f
     may-some = rw (e, q, ← z) u
 
+-- what is made of what was found, or else z
+module _ {A : Type 0} (m : Maybe) (d : ℕ) (s : List ℕ) {f : Found} (e : m ≡ seen (treeAt d s) f) (g : Json → A) (z : A) {r : A} where
+  pub inside-none : f ≡ Missing → r ≡ z → r ≡ inside m g z
+  inside-none q h = rw (e, q) h
+
+  pub inside-some : {p : ℕ} → f ≡ At p → r ≡ g (treeAt d s p) → r ≡ inside m g z
+  inside-some q h = rw (e, q) h
+
 -- any rule over the elements of an array: where a walk begins, and one element
 module _ (p : Json → Bool) (j : Json) (d : ℕ) (s : List ℕ) (r : Found) (e : items j ≡ itemsFrom d s r) where
   pub all-none : r ≡ Missing → true ≡ all p (items j)
@@ -42,13 +51,6 @@ module _ (p : Json → Bool) (j : Json) (d : ℕ) (s : List ℕ) (r : Found) (e 
 
   pub all-some : {k : ℕ} → r ≡ At k → {d′ : ℕ} → d′ ≡ d → all p (items j) ≡ all p (elementsFrom d′ s k)
   all-some q z = rw (e, q, z)
-
-  pub with-none : r ≡ Missing → firstWith p (items j) ≡ none
-  unfolding firstWith
-  with-none q = rw (e, q)
-
-  pub with-some : {k : ℕ} → r ≡ At k → {d′ : ℕ} → d′ ≡ d → firstWith p (items j) ≡ firstWith p (elementsFrom d′ s k)
-  with-some q z = rw (e, q, z)
 
 module _ (p : Json → Bool) (d : ℕ) (s : List ℕ) (j : ℕ) {t : Bool} (inv : t ≡ all p (elementsFrom d s j)) {i : ℕ} (g : i ≡ spanAt isSpace s j) {b : Bool} (e : b ≡ p (treeAt d s i)) where
   all-now : t ≡ b && (all p (elementsAfter d s j))
@@ -91,17 +93,9 @@ module _ (p : Json → Bool) (d : ℕ) (s : List ℕ) (j : ℕ) {t : Maybe} (inv
     unfolding firstWith
     with-on u = rw (firstWith, ← e, q, element-after-more d s j f u) at with-now
 
-pub ruleset array-walk = (needs, not-true, not-false, element-less, all-none, all-some, all-bad, all-done, all-wrong, all-on, with-none, with-some, with-found, with-done, with-wrong, with-on)
+pub ruleset array-walk = (needs, not-true, not-false, element-less, all-none, all-some, all-bad, all-done, all-wrong, all-on, with-found, with-done, with-wrong, with-on)
 
 -- any rule over the names of an object's members
-module _ (p : List ℕ → Bool) (j : Json) (d : ℕ) (s : List ℕ) (r : Found) (e : fields j ≡ fieldsFrom d s r) where
-  pub names-none : r ≡ Missing → true ≡ allNames p (fields j)
-  unfolding allNames
-  names-none q = rw (e, q)
-
-  pub names-some : {k : ℕ} → r ≡ At k → {d′ : ℕ} → d′ ≡ d → allNames p (fields j) ≡ allNames p (membersFrom d′ s k)
-  names-some q z = rw (e, q, z)
-
 module _ (p : List ℕ → Bool) (d : ℕ) (s : List ℕ) (j : ℕ) {t : Bool} (inv : t ≡ allNames p (membersFrom d s j)) {b : Bool} (e : b ≡ p (nameAt s j)) where
   names-now : t ≡ b && (allNames p (membersAfter d s j))
   unfolding allNames
@@ -122,17 +116,36 @@ module _ (p : List ℕ → Bool) (d : ℕ) (s : List ℕ) (j : ℕ) {t : Bool} (
     pub names-on : {k : ℕ} → n ≡ More k → t ≡ allNames p (membersFrom d s k)
     names-on u = rw (q, after-more d s j f u) at names-now
 
-pub ruleset object-walk = (needs, not-true, not-false, member-less, names-none, names-some, names-bad, names-done, names-wrong, names-on)
+pub ruleset object-walk = (needs, not-true, not-false, member-less, names-bad, names-done, names-wrong, names-on)
 
--- a string whose bytes pass a test, and an integer in a range
+-- where the string stands that was found
+bytes-end : (s : List ℕ) → bytesAt s (length s) ≡ []
+unfolding pieceAt
+bytes-end s = let h : length s ≤ length s = omega arith in string-turn s (length s) ∙ rw (List·getD-eq-default s 0 h)
+
+pub no-bytes : (d : ℕ) (s : List ℕ) (at b : ℕ) → b ≡ getD s at 0 → (b ≡ 34 → ⊥) → bytesIn (some (treeAt d s at)) ≡ []
+no-bytes d s at b e f = tree-kinds (λ (j : Json). bytesIn (some j) ≡ []) d s at b e (λ q es. refl) (λ q ms. refl) (λ q. absurd (f q)) (λ q. refl) (λ q. refl) (λ q. refl) (λ n. refl) refl
+
+module _ (s : List ℕ) (f : Found) where
+  pub string-none : f ≡ Missing → StringAt s f (length s)
+  string-none q = record { is = λ d. rw q (bytes-end s) }
+
+  module _ {p : ℕ} (q : f ≡ At p) {b : ℕ} (g : b ≡ getD s p 0) where
+    pub string-there : b ≡ 34 → StringAt s f (p + 1)
+    string-there u = record { is = λ d. rw (q, tree-string d s p g u) }
+
+    pub string-not : (b ≡ 34 → ⊥) → StringAt s f (length s)
+    string-not u = record { is = λ d. rw q (bytes-end s ∙ sym (no-bytes d s p b g u)) }
+
+pub string-found : (m : Maybe) (d : ℕ) (s : List ℕ) (f : Found) → m ≡ seen (treeAt d s) f → {r : ℕ} → StringAt s f r → bytesAt s r ≡ bytesIn m
+string-found m d s f e a = a .is d ∙ ap bytesIn (sym e)
+
+pub ruleset string-places = (needs, past-is, string-none, string-there, string-not)
+
+-- a string whose bytes pass a test
 module _ (p : List ℕ → Bool) (d : ℕ) (s : List ℕ) (at b : ℕ) (e : b ≡ getD s at 0) where
   pub text-is : b ≡ 34 → {r : Bool} → r ≡ p (bytesAt s (at + 1)) → r ≡ text p (treeAt d s at)
   text-is q u = rw (tree-string d s at e q) u
 
   pub text-not : (b ≡ 34 → ⊥) → false ≡ text p (treeAt d s at)
   text-not f = tree-kinds (λ (j : Json). false ≡ text p j) d s at b e (λ q es. refl) (λ q ms. refl) (λ q. absurd (f q)) (λ q. refl) (λ q. refl) (λ q. refl) (λ n. refl) refl
-
-pub range-of : (low high : ℕ) (j : Json) {c : Count} → c ≡ countOf j → {r : Bool} → r ≡ within low high c → r ≡ within low high (countOf j)
-range-of low high j e u = rw (← e) u
-
-pub ruleset rules = (needs, not-true, not-false, past-is, must-none, must-some, may-none, may-some, text-is, text-not, range-of)

@@ -180,6 +180,6 @@ module _ (w : List ℕ) (j : Json) (d : ℕ) (s : List ℕ) (r : Found) (e : fie
   unfolding lookup
   member-first q z x u = rw (e, q, ← z) u
 
-pub ruleset walking = (needs, past-is, member-bad, member-wrong, member-of, element-bad, element-of, place-end, place-bad, name-place, name-place-out, name-is, seek-found, seek-done, seek-wrong, seek-more, member-less)
+pub ruleset walking = (needs, member-bad, member-wrong, member-of, element-bad, element-of, place-end, place-bad, name-place, name-place-out, name-is, seek-found, seek-done, seek-wrong, seek-more, member-less)
 
 pub ruleset beginning = (needs, past-is, items-zero, items-not, items-none, items-some, fields-zero, fields-not, fields-none, fields-some, member-none, member-first)

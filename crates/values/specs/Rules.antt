@@ -1,11 +1,14 @@
 -- The words that rules over a tree are put together from.
 use Prim.Native.Nat.{ℕ}
+use mathlib.Core.Path.{_≡_}
 use mathlib.Core.List.{List, []}
 use mathlib.Core.Bool.{Bool, true, false, cond, _&&_}
 use lib.Dec.{leb}
 use Rattle.values.specs.declared.Count.{Count}
 use Rattle.values.specs.declared.Count.the-variants.{Is, Not}
-use Rattle.values.specs.Tree.{Json, null, bool, integer, real, string, array, object, Elements, no-more, element, Members, nothing, member, Maybe, none, some, lookup}
+use Rattle.values.specs.declared.Found.{Found}
+use Rattle.values.specs.Decode.{bytesAt}
+use Rattle.values.specs.Tree.{Json, null, bool, integer, real, string, array, object, Elements, no-more, element, Members, nothing, member, Maybe, none, some, lookup, treeAt, seen}
 
 -- a member that must be there, and one that may be missing
 abbrev pub must : Maybe → (Json → Bool) → Bool
@@ -16,13 +19,13 @@ abbrev pub may : Maybe → (Json → Bool) → Bool
 may none f = true
 may (some j) f = f j
 
--- what a rule finds in what was found; the member of that name in it; one thing, or else the other
-abbrev pub inside : Maybe → (Json → Maybe) → Maybe
-inside none f = none
-inside (some j) f = f j
+-- what a rule makes of what was found, or else z; the member of that name in it; one thing, or else the other
+abbrev pub inside : {A : Type 0} → Maybe → (Json → A) → A → A
+inside none f z = z
+inside (some j) f z = f j
 
 abbrev pub under : List ℕ → Maybe → Maybe
-under name m = inside m (lookup name)
+under name m = inside m (lookup name) none
 
 abbrev pub orOther : Maybe → Maybe → Maybe
 orOther none b = b
@@ -43,6 +46,10 @@ bytesIn (some real) = []
 bytesIn (some (string b)) = b
 bytesIn (some (array es)) = []
 bytesIn (some (object ms)) = []
+
+-- r is where the first character stands of the string that was found, whatever the depth
+pub record StringAt (s : List ℕ) (found : Found) (r : ℕ) : Type 0 where
+  pub is : (d : ℕ) → bytesAt s r ≡ bytesIn (seen (treeAt d s) found)
 
 -- an integer from low to high
 abbrev pub within : ℕ → ℕ → Count → Bool

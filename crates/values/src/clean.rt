@@ -73,7 +73,7 @@ fn fine(s: &[u8], at: usize, depth: usize, r: Entry) -> bool
     }
 }
 
-fn both(a: bool, b: bool) -> bool
+pub fn both(a: bool, b: bool) -> bool
     ensures { λ r. ⌜ r ≡ (a && b) ⌝ }
 {
     if a {

@@ -1,4 +1,5 @@
-// Strings compared while they are decoded.
+// Strings: where one stands, and comparing them while they are decoded.
+use super::Found;
 use super::Head;
 use super::Piece;
 use super::decode::begun;
@@ -8,11 +9,26 @@ use super::decode::piece;
 use super::decode::raw;
 use super::decode::rest;
 use super::decode::wide;
+use text::bytes::byte_at;
 ghost use mathlib.Core.Path.{_≡_};
 ghost use Rattle.text.specs.Words.{sameBytes};
 ghost use Rattle.values.specs.Decode.{bytesAt, restOf};
 ghost use Rattle.values.specs.Clean.{allBytes};
 ghost use Rattle.values.specs.Names.{Later};
+ghost use Rattle.values.specs.Rules.{StringAt};
+
+// The first character of the string that was found; the end of the text, where nothing stands, if there is none.
+pub fn string_place(s: &[u8], found: Found) -> usize
+    ensures { λ r. ⌜ StringAt (now (s .entry)) found r ⌝ }
+{
+    let Found::At(p) = found else {
+        return s.len();
+    };
+    if byte_at(s, p) == b'"' {
+        return p + 1;
+    }
+    s.len()
+}
 
 // Does the string whose first character stands at `at` stand for the bytes of `w`?
 pub fn string_is(s: &[u8], at: usize, w: &[u8]) -> bool

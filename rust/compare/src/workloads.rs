@@ -48,6 +48,22 @@ pub fn full_table() -> Vec<u8> {
     reply
 }
 
+/// A stored table of 512 lines that is slow to judge: four addresses that touch, with 128 remote ports each,
+/// of which the last differs from one address to the next.
+pub fn touching_table() -> Vec<u8> {
+    let mut text = String::new();
+    for address in 0..4 {
+        for port in 0..128 {
+            let last = 60_000 + if port == 127 { address } else { 2 * port - 300 };
+            writeln!(text, "0-0\t6-6\t0-1\t10.0.0.{address}-10.0.0.{address}\t{last}-{last}\t0-65535")
+                .unwrap();
+        }
+    }
+    let mut stored = text.into_bytes();
+    stored.resize(REPLY_LEN, 0);
+    stored
+}
+
 /// A workload, tried once: it must be what its name says.
 fn workload(name: &'static str, file: String, site: String, number: u8) -> Workload {
     assert!(file.len() <= 32_768, "{name}: {} bytes", file.len());

@@ -16,7 +16,6 @@ section-requires c κs =
     let yb = c .before .accept-mask2 in (
       omega arith,
       omega arith,
-      omega arith,
       omega (arith, cells .kept .0, rules .kept .0, s .pre .0),
       ready-all (a .n + 5) (k .result) (ya .result) (yb .result) (rules .last .0) (cells .last .0) (omega (arith, s .pre .1)) (cells .ensures) (k .ensures) (ya .ensures) (yb .ensures),
     )

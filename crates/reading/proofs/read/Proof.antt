@@ -6,8 +6,11 @@ pub read-spec : {M : Type 1} → statement M
 read-spec =
     tie.close
     (tie.spec
+    (λ c. search found)
     (λ c κs. search found)
+    (λ c. search found)
     (λ c κs. search found)
+    (λ c. search found)
     (λ c κs. search found)
     (λ c. search found)
     (λ c. search found))

@@ -8,10 +8,10 @@ use Rattle.reading.proofs.read_list.Statement.{statement}
 use Rattle.reading.proofs.read_list.Tie as tie
 
 abbrev Inv-loop : tie.InvT-loop
-Inv-loop s site work₀ at d url t₀ j₀ work t j = Left d site (bytesAt s url) (toList (elementsFrom 10 s at)) t₀ work₀ (toList (elementsFrom 10 s j)) t work
+Inv-loop s site places work₀ at d url t₀ j₀ work t j = Left d site (bytesAt s url) (toList (elementsFrom 10 s at)) t₀ work₀ (toList (elementsFrom 10 s j)) t work
 
 abbrev μ-loop : tie.MeasureT-loop
-μ-loop s site work₀ at d url t₀ j₀ work t j = length s - j
+μ-loop s site places work₀ at d url t₀ j₀ work t j = length s - j
 
 pub read-list-spec : {M : Type 1} → statement M
 read-list-spec =

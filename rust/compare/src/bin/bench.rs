@@ -7,8 +7,8 @@
 use std::hint::black_box;
 
 use compare::timing;
-use compare::workloads::{builds, full_table, Workload};
-use mirokdeul::{DevicePort, Flow, RemotePort, REPLY_LEN, WORK_LEN};
+use compare::workloads::{builds, full_table, touching_table, Workload};
+use mirokdeul::{DevicePort, Flow, RemotePort, Verdict, REPLY_LEN, WORK_LEN};
 
 fn main() {
     let rounds = std::env::args().nth(1).and_then(|text| text.parse().ok()).unwrap_or(101);
@@ -37,33 +37,44 @@ fn bench_build(workload: &Workload, rounds: usize) {
 }
 
 fn bench_verdicts(rounds: usize) {
-    let table = full_table();
-    for (name, address) in [("first line", 0x0A00_0000), ("last line", 0x0A00_007E), ("no line", 0x0A00_0001)]
-    {
-        let flow = Flow {
-            direction: 0,
-            protocol: 6,
-            opener: 0,
-            address: u32::into(address),
-            remote: RemotePort(if name == "first line" { 0 } else { 14 }),
-            device: DevicePort(40_000),
-        };
-        let plain_flow = mirokdeul_plain::Flow {
-            direction: 0,
-            protocol: 6,
-            opener: 0,
-            address,
-            remote: mirokdeul_plain::RemotePort(flow.remote.0),
-            device: mirokdeul_plain::DevicePort(flow.device.0),
-        };
-        let library = || {
-            let _ = black_box(mirokdeul::verdict(black_box(&table), &flow));
-        };
-        let plain = || {
-            black_box(mirokdeul_plain::verdict(black_box(&table), plain_flow));
-        };
-        report(&format!("verdict: 512 lines, {name}"), rounds, library, plain);
-    }
+    let full = full_table();
+    bench_verdict("512 lines, first line", &full, 0x0A00_0000, 0, rounds);
+    bench_verdict("512 lines, last line", &full, 0x0A00_007E, 14, rounds);
+    bench_verdict("512 lines, no line", &full, 0x0A00_0001, 14, rounds);
+    bench_verdict(
+        "512 lines of four addresses that touch, last line",
+        &touching_table(),
+        0x0A00_0003,
+        60_003,
+        rounds,
+    );
+}
+
+fn bench_verdict(name: &str, table: &[u8], address: u32, remote: u16, rounds: usize) {
+    let flow = Flow {
+        direction: 0,
+        protocol: 6,
+        opener: 0,
+        address: address.into(),
+        remote: RemotePort(remote),
+        device: DevicePort(40_000),
+    };
+    let plain_flow = mirokdeul_plain::Flow {
+        direction: 0,
+        protocol: 6,
+        opener: 0,
+        address,
+        remote: mirokdeul_plain::RemotePort(remote),
+        device: mirokdeul_plain::DevicePort(40_000),
+    };
+    let is_line = name.ends_with("first line") || name.ends_with("last line");
+    let library = || {
+        assert_eq!(mirokdeul::verdict(black_box(table), &flow) == Ok(Verdict::Accept), is_line);
+    };
+    let plain = || {
+        black_box(mirokdeul_plain::verdict(black_box(table), plain_flow));
+    };
+    report(&format!("verdict: {name}"), rounds, library, plain);
 }
 
 /// Times the two in turns and prints a line of the table.

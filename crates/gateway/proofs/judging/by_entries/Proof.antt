@@ -1,4 +1,4 @@
-use Rattle.gateway.proofs.Stages.{judging, told-known, told-sound, told-many, entries-pass, few-lines}
+use Rattle.gateway.proofs.Stages.{judging, told-known, told-sound, told-many, entries-pass}
 use Rattle.gateway.specs.Answer.{byEntries}
 use borrow.Author.Needs.{needs}
 use Rattle.gateway.proofs.judging.by_entries.Statement.{statement}
@@ -23,7 +23,7 @@ pub by-entries-spec : {M : Type 1} → statement M
 by-entries-spec =
     tie.close
     (tie.spec
-    (λ c κs. search (needs, few-lines))
+    (λ c κs. search needs)
     (λ c. search needs)
     returns
     (λ c. search needs)

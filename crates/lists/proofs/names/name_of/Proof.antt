@@ -8,10 +8,5 @@ name-of-spec =
     (tie.spec
     (λ c. search naming)
     (λ c κs. search naming)
-    (λ c. search naming)
-    (λ c. search naming)
-    (λ c. search naming)
     (λ c κs. search naming)
-    (λ c. search naming)
-    (λ c. search naming)
     (λ c. search naming))

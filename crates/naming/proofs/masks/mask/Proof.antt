@@ -1,16 +1,15 @@
 use Rattle.naming.proofs.Masking.{masking, Masking}
 use Prim.Native.Nat.{_-_}
-use lib.ListN.{length}
 use Rattle.naming.specs.Named.{names}
 use Rattle.naming.specs.Wanted.{kindOf, testOf}
 use Rattle.naming.proofs.masks.mask.Statement.{statement}
 use Rattle.naming.proofs.masks.mask.Tie as tie
 
 abbrev Inv-loop : tie.InvT-loop
-Inv-loop text wanted site m₀ j₀ at₀ m j at = Masking (names (kindOf wanted) (testOf text wanted) site) site at j m
+Inv-loop text wanted site places m₀ j₀ m j = Masking (names (kindOf wanted) (testOf text wanted) site) site j m
 
 abbrev μ-loop : tie.MeasureT-loop
-μ-loop text wanted site m₀ j₀ at₀ m j at = length site - at
+μ-loop text wanted site places m₀ j₀ m j = 64 - j
 
 pub mask-spec : {M : Type 1} → statement M
 mask-spec =
@@ -19,12 +18,13 @@ mask-spec =
     Inv-loop
     μ-loop
     (λ c. search masking)
-    (λ c κs. search masking)
     (λ c. search masking)
     (λ c. search masking)
     (λ c. search masking)
+    (λ c. search masking)
     (λ c κs. search masking)
     (λ c κs. search masking)
+    (λ c. search masking)
     (λ c. search masking)
     (λ c. search masking)
     (λ c. search masking)

@@ -1,13 +1,14 @@
 use Rattle.naming.proofs.Masking.{masking, Loading}
 use Prim.Native.Nat.{_-_}
+use Rattle.naming.specs.Masks.{networkWord, placeWord}
 use Rattle.naming.proofs.networks.load.Statement.{statement}
 use Rattle.naming.proofs.networks.load.Tie as tie
 
 abbrev Inv-loop : tie.InvT-loop
-Inv-loop site work₀ at₀ j₀ work at j = Loading site work₀ at j work
+Inv-loop site work₀ places₀ at₀ j₀ work places at j = Loading networkWord site work₀ at j work × Loading placeWord site places₀ at j places
 
 abbrev μ-loop : tie.MeasureT-loop
-μ-loop site work₀ at₀ j₀ work at j = 64 - j
+μ-loop site work₀ places₀ at₀ j₀ work places at j = 64 - j
 
 pub load-spec : {M : Type 1} → statement M
 load-spec =
@@ -24,10 +25,16 @@ load-spec =
     (λ c. search masking)
     (λ c. search masking)
     (λ c. search masking)
+    (λ c. (search masking, search masking))
+    (λ c. search masking)
+    (λ c κs. search masking)
+    (λ c. search masking)
+    (λ c. search masking)
     (λ c κs. search masking)
     (λ c. search masking)
     (λ c. search masking)
     (λ c. search masking)
+    (λ c. (search masking, search masking))
     (λ c. search masking)
     (λ c. search masking)
     (λ c. search masking))

@@ -8,7 +8,6 @@ is-wanted-spec =
     (tie.spec
     (λ c κs. search wanting)
     (λ c κs. search wanting)
-    (λ c κs. search wanting)
     (λ c. search wanting)
     (λ c. search wanting)
     (λ c. search wanting)

@@ -1,4 +1,4 @@
-use Rattle.rules.proofs.RowLaws.{rowing}
+use Rattle.rules.proofs.PortLaws.{porting}
 use Rattle.rules.proofs.ports.ports_under.Statement.{statement}
 use Rattle.rules.proofs.ports.ports_under.Tie as tie
 
@@ -6,10 +6,10 @@ pub ports-under-spec : {M : Type 1} → statement M
 ports-under-spec =
     tie.close
     (tie.spec
-    (λ c κs. search rowing)
-    (λ c. search rowing)
-    (λ c κs. search rowing)
-    (λ c. search rowing)
-    (λ c κs. search rowing)
-    (λ c. search rowing)
-    (λ c. search rowing))
+    (λ c κs. search porting)
+    (λ c. search porting)
+    (λ c κs. search porting)
+    (λ c. search porting)
+    (λ c κs. search porting)
+    (λ c. search porting)
+    (λ c. search porting))

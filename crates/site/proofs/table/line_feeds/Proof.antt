@@ -1,5 +1,5 @@
 use Rattle.site.proofs.Laws.{lining}
-use Prim.Native.Nat.{_+_, _-_, _≤_}
+use Prim.Native.Nat.{_+_, _≤_}
 use mathlib.Core.Path.{_≡_}
 use lib.ListN.{length, drop}
 use Rattle.site.specs.Site.{lineFeeds}
