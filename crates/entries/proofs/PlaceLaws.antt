@@ -1,120 +1,127 @@
--- Laws of members that are found in one walk.
-use Prim.Native.Nat.{ℕ, _-_}
-use mathlib.Core.Path.{_≡_, refl, sym, ap, _∙_, subst}
+-- Laws of the places of an entry's members.
+use Prim.Native.Nat.{ℕ}
+use mathlib.Core.Path.{_≡_, refl, _∙_, subst}
 use mathlib.Core.List.{List}
-use mathlib.Core.Bool.{Bool, true, false}
+use mathlib.Core.Bool.{Bool, true, false, _&&_, _||_}
 use borrow.Author.Needs.{needs}
 use Rattle.text.specs.Ascii.{ascii}
 use Rattle.text.specs.Words.{sameBytes}
-use Rattle.json.specs.declared.Next.{Next}
-use Rattle.json.specs.declared.Next.the-variants.{Done, More, Wrong}
-use Rattle.json.specs.Reading.{memberAt, valueAt}
+use Rattle.flows.specs.declared.Direction.{Direction}
+use Rattle.flows.specs.declared.Direction.the-variants.{FromDevice, ToDevice}
 use Rattle.values.specs.declared.Found.{Found}
 use Rattle.values.specs.declared.Found.the-variants.{At, Missing}
-use Rattle.values.specs.Tree.{Json, Members, nothing, Maybe, none, some, nameAt, placeAt, treeAt, find, lookup, fields, fieldsFrom, membersFrom, membersAfter, seen}
-use Rattle.values.specs.Rules.{may, under, orOther}
-use Rattle.values.proofs.Walking.{members-turn, member-less, after-done, after-wrong, after-more}
-use Rattle.header.specs.Asked.{obeys}
+use Rattle.values.specs.Tree.{Json, Members, nothing, member, Maybe, none, some, treeAt, lookup, fields, seen}
+use Rattle.values.specs.Rules.{may, under, allNames}
+use Rattle.header.specs.Asked.{isAmong, obeys}
 use Rattle.header.specs.declared.asked.Asked.the-variants.{Nothing}
-use Rattle.entries.specs.declared.places.Four.{Four}
+use Rattle.entries.specs.Known.{only, matchNames, mudNames, ipv4Names, tcpNames, udpNames, portNames, portsKnown}
+use Rattle.entries.specs.Sound.{remoteNetwork, deviceNetwork, remoteName, deviceName}
+use Rattle.entries.specs.Members.{sixNames, SixOf}
+use Rattle.entries.specs.Places.{isMissing, MatchesAt, MudAt, Ipv4At, TcpAt, UdpAt, PortAt, SidesOf, Held, PartsOf}
+use Rattle.entries.specs.declared.members.Six.{Six}
 use Rattle.entries.specs.declared.places.Parts.{Parts}
-use Rattle.entries.specs.Places.{isMissing, Noted, FourFrom, FourOf, Held, PartsOf}
 
--- ## one name
-module _ (w : List ℕ) (d : ℕ) (s : List ℕ) (j : ℕ) {f : Found} where
-  pub note-old : {p : ℕ} → f ≡ At p → orOther (seen (treeAt d s) f) (find w (membersFrom d s j)) ≡ orOther (seen (treeAt d s) (At p)) (find w (membersAfter d s j))
-  note-old q = rw q
+-- ## a name that is given again changes nothing
+all-same : {P Q : List ℕ → Bool} → ((n : List ℕ) → P n ≡ Q n) → (ms : Members) → allNames P ms ≡ allNames Q ms
+unfolding allNames
+all-same h nothing = refl
+all-same h (member n j ms) = rw (h n, all-same h ms)
 
-  module _ (q : f ≡ Missing) {b : Bool} (e : b ≡ sameBytes (nameAt s j) w) where
-    pub note-new : b ≡ true → {k : ℕ} → k ≡ placeAt s j → orOther (seen (treeAt d s) f) (find w (membersFrom d s j)) ≡ orOther (seen (treeAt d s) (At k)) (find w (membersAfter d s j))
-    unfolding find
-    note-new y z = rw (q, members-turn d s j, find, ← e, y, z)
+may-same : (names others : List (List ℕ)) → ((n : List ℕ) → isAmong n names ≡ isAmong n others) → (m : Maybe) → may m (only names) ≡ may m (only others)
+may-same names others h none = refl
+may-same names others h (some j) = all-same h (fields j)
 
-    pub note-none : b ≡ false → orOther (seen (treeAt d s) f) (find w (membersFrom d s j)) ≡ orOther (seen (treeAt d s) Missing) (find w (membersAfter d s j))
-    unfolding find
-    note-none y = rw (q, members-turn d s j, find, ← e, y)
+matches-again : (a b c d : Bool) → (a || (b || (c || (d || (d || (d || false)))))) ≡ (a || (b || (c || (d || false))))
+matches-again a b c true = refl
+matches-again a b c false = refl
 
--- ## four names
-abbrev no-four : Four
-no-four = record { first = Missing; second = Missing; third = Missing; fourth = Missing }
+ipv4-again : (a b c d e : Bool) → (a || (b || (c || (d || (e || (a || false)))))) ≡ (a || (b || (c || (d || (e || false)))))
+ipv4-again true b c d e = refl
+ipv4-again false b c d e = refl
 
-or-none : (m : Maybe) → orOther m none ≡ m
-or-none none = refl
-or-none (some j) = refl
+port-again : (a b c d : Bool) → (a || (b || (c || (d || (a || (a || false)))))) ≡ (a || (b || (c || (d || false))))
+port-again true b c d = refl
+port-again false b c d = refl
 
-module _ (depth : ℕ) (s a b c d : List ℕ) where
-  pub four-noted : (ms ms′ : Members) (f : Four) {p q r u : Found} → orOther (seen (treeAt depth s) (f .first)) (find a ms) ≡ orOther (seen (treeAt depth s) p) (find a ms′) → orOther (seen (treeAt depth s) (f .second)) (find b ms) ≡ orOther (seen (treeAt depth s) q) (find b ms′) → orOther (seen (treeAt depth s) (f .third)) (find c ms) ≡ orOther (seen (treeAt depth s) r) (find c ms′) → orOther (seen (treeAt depth s) (f .fourth)) (find d ms) ≡ orOther (seen (treeAt depth s) u) (find d ms′) → Noted depth s a b c d ms ms′ f (record { first = p; second = q; third = r; fourth = u })
-  four-noted ms ms′ f e g h i = record { first = e; second = g; third = h; fourth = i }
+tcp-again : (a b c : Bool) → (a || (b || (c || (a || (a || (a || false)))))) ≡ (a || (b || (c || false)))
+tcp-again true b c = refl
+tcp-again false b c = refl
 
-  pub four-start : (ms : Members) → Noted depth s a b c d ms ms no-four no-four
-  four-start ms = record { first = refl; second = refl; third = refl; fourth = refl }
+udp-again : (a b : Bool) → (a || (b || (a || (a || (a || (a || false)))))) ≡ (a || (b || false))
+udp-again true b = refl
+udp-again false b = refl
 
-  module _ (j : ℕ) {ms : Members} {f r : Four} (x : Noted depth s a b c d ms (membersFrom depth s j) no-four f) (y : Noted depth s a b c d (membersFrom depth s j) (membersAfter depth s j) f r) where
-    both-noted : Noted depth s a b c d ms (membersAfter depth s j) no-four r
-    both-noted = record { first = x .first ∙ y .first; second = x .second ∙ y .second; third = x .third ∙ y .third; fourth = x .fourth ∙ y .fourth }
+module _ (m : Maybe) {r : Bool} where
+  matches-listed : r ≡ may m (only (sixNames (ascii "ietf-mud:mud") (ascii "ipv4") (ascii "tcp") (ascii "udp") (ascii "udp") (ascii "udp"))) → r ≡ may m (only matchNames)
+  unfolding isAmong
+  matches-listed h = h ∙ may-same (sixNames (ascii "ietf-mud:mud") (ascii "ipv4") (ascii "tcp") (ascii "udp") (ascii "udp") (ascii "udp")) matchNames (λ n. matches-again (sameBytes n (ascii "ietf-mud:mud")) (sameBytes n (ascii "ipv4")) (sameBytes n (ascii "tcp")) (sameBytes n (ascii "udp"))) m
 
-    last : membersAfter depth s j ≡ nothing → FourFrom depth s a b c d ms r
-    unfolding find
-    last e =
-        let z = subst (λ (m : Members). Noted depth s a b c d ms m no-four r) e both-noted in
-        record {
-          first = z .first ∙ or-none (seen (treeAt depth s) (r .first));
-          second = z .second ∙ or-none (seen (treeAt depth s) (r .second));
-          third = z .third ∙ or-none (seen (treeAt depth s) (r .third));
-          fourth = z .fourth ∙ or-none (seen (treeAt depth s) (r .fourth));
-        }
+  ipv4-listed : r ≡ may m (only (sixNames (ascii "protocol") (ascii "source-ipv4-network") (ascii "destination-ipv4-network") (ascii "ietf-acldns:src-dnsname") (ascii "ietf-acldns:dst-dnsname") (ascii "protocol"))) → r ≡ may m (only ipv4Names)
+  unfolding isAmong
+  ipv4-listed h = h ∙ may-same (sixNames (ascii "protocol") (ascii "source-ipv4-network") (ascii "destination-ipv4-network") (ascii "ietf-acldns:src-dnsname") (ascii "ietf-acldns:dst-dnsname") (ascii "protocol")) ipv4Names (λ n. ipv4-again (sameBytes n (ascii "protocol")) (sameBytes n (ascii "source-ipv4-network")) (sameBytes n (ascii "destination-ipv4-network")) (sameBytes n (ascii "ietf-acldns:src-dnsname")) (sameBytes n (ascii "ietf-acldns:dst-dnsname"))) m
 
-    module _ {n : Next} (e : n ≡ memberAt (valueAt depth s) s j) where
-      pub four-done : {k : ℕ} → n ≡ Done k → FourFrom depth s a b c d ms r
-      four-done u = last (after-done depth s j e u)
+  port-listed : r ≡ may m (only (sixNames (ascii "lower-port") (ascii "upper-port") (ascii "port") (ascii "operator") (ascii "lower-port") (ascii "lower-port"))) → r ≡ may m (only portNames)
+  unfolding isAmong
+  port-listed h = h ∙ may-same (sixNames (ascii "lower-port") (ascii "upper-port") (ascii "port") (ascii "operator") (ascii "lower-port") (ascii "lower-port")) portNames (λ n. port-again (sameBytes n (ascii "lower-port")) (sameBytes n (ascii "upper-port")) (sameBytes n (ascii "port")) (sameBytes n (ascii "operator"))) m
 
-      pub four-wrong : {k : ℕ} → n ≡ Wrong k → FourFrom depth s a b c d ms r
-      four-wrong u = last (after-wrong depth s j e u)
+  tcp-listed : r ≡ may m (only (sixNames (ascii "source-port") (ascii "destination-port") (ascii "ietf-mud:direction-initiated") (ascii "source-port") (ascii "source-port") (ascii "source-port"))) → r ≡ may m (only tcpNames)
+  unfolding isAmong
+  tcp-listed h = h ∙ may-same (sixNames (ascii "source-port") (ascii "destination-port") (ascii "ietf-mud:direction-initiated") (ascii "source-port") (ascii "source-port") (ascii "source-port")) tcpNames (λ n. tcp-again (sameBytes n (ascii "source-port")) (sameBytes n (ascii "destination-port")) (sameBytes n (ascii "ietf-mud:direction-initiated"))) m
 
-      pub four-more : {k : ℕ} → n ≡ More k → Noted depth s a b c d ms (membersFrom depth s k) no-four r
-      four-more u = subst (λ (m : Members). Noted depth s a b c d ms m no-four r) (after-more depth s j e u) both-noted
-
-  -- of an object
-  module _ (f : Found) where
-    pub four-missing : f ≡ Missing → FourOf depth s a b c d f no-four
-    four-missing q = rw q (record { first = refl; second = refl; third = refl; fourth = refl })
-
-    module _ {p : ℕ} (q : f ≡ At p) {g : Found} (e : fields (treeAt depth s p) ≡ fieldsFrom (depth - 1) s g) where
-      pub four-empty : g ≡ Missing → FourOf depth s a b c d f no-four
-      unfolding lookup find
-      four-empty u = rw q (record { first = rw (e, u); second = rw (e, u); third = rw (e, u); fourth = rw (e, u) })
-
-      pub four-some : {j : ℕ} → g ≡ At j → {d′ : ℕ} → d′ ≡ depth - 1 → {r : Four} → FourFrom d′ s a b c d (membersFrom d′ s j) r → FourOf depth s a b c d f r
-      unfolding lookup
-      four-some {j} u {d′} z {r} h =
-          let k = subst (λ (i : ℕ). FourFrom i s a b c d (membersFrom i s j) r) z h in
-          let y : fields (treeAt depth s p) ≡ membersFrom (depth - 1) s j = e ∙ rw u in
-          rw q (record { first = ap (find a) y ∙ k .first; second = ap (find b) y ∙ k .second; third = ap (find c) y ∙ k .third; fourth = ap (find d) y ∙ k .fourth })
+  udp-listed : r ≡ may m (only (sixNames (ascii "source-port") (ascii "destination-port") (ascii "source-port") (ascii "source-port") (ascii "source-port") (ascii "source-port"))) → r ≡ may m (only udpNames)
+  unfolding isAmong
+  udp-listed h = h ∙ may-same (sixNames (ascii "source-port") (ascii "destination-port") (ascii "source-port") (ascii "source-port") (ascii "source-port") (ascii "source-port")) udpNames (λ n. udp-again (sameBytes n (ascii "source-port")) (sameBytes n (ascii "destination-port"))) m
 
 -- ## the parts of an entry
-pub parts-are : (s : List ℕ) (entry : ℕ) {e m : Four} {x y : List ℕ} → FourOf 10 s (ascii "actions") (ascii "matches") x y (At entry) e → FourOf 9 s (ascii "ietf-mud:mud") (ascii "ipv4") (ascii "tcp") (ascii "udp") (e .second) m → PartsOf s entry (record { actions = e .first; matches = e .second; mud = m .first; ipv4 = m .second; tcp = m .third; udp = m .fourth })
-parts-are s entry a b =
-    record { actions = a .first; matches = a .second; held = record { mud = b .first; ipv4 = b .second; tcp = b .third; udp = b .fourth } }
+pub parts-are : (s : List ℕ) (entry : ℕ) {e m i : Six} {w x y z : List ℕ} → SixOf 10 s (ascii "actions") (ascii "matches") w x y z (At entry) e → MatchesAt s (e .second) m → Ipv4At s (m .second) i → PartsOf s entry (record { actions = e .first; matches = e .second; mud = m .first; ipv4 = m .second; tcp = m .third; udp = m .fourth; listed = m .listed; inIpv4 = i })
+parts-are s entry {e} a b c =
+    record {
+      actions = a .first;
+      matches = a .second;
+      held = record { mud = b .first; ipv4 = b .second; tcp = b .third; udp = b .fourth; listed = matches-listed (seen (treeAt 9 s) (e .second)) (b .listed); inIpv4 = c };
+    }
 
-pub held-at : {s : List ℕ} {f : Found} {e : Parts} → Held s f e → {p : ℕ} → f ≡ At p → Held s (At p) e
-held-at {s} {f} {e} h q = subst (λ (x : Found). Held s x e) q h
+module _ (d : Direction) (s : List ℕ) (f : Found) {m : Six} (h : Ipv4At s f m) where
+  pub sides-from : d ≡ FromDevice → SidesOf d s f (record { network = m .third; name = m .fifth; elsewhere = m .second; stranger = m .fourth })
+  unfolding remoteNetwork remoteName deviceNetwork deviceName
+  sides-from q = rw q (record { network = h .third; name = h .fifth; elsewhere = h .second; stranger = h .fourth })
 
-pub found-may : (w : List ℕ) (j : Json) (d : ℕ) (s : List ℕ) (f : Found) (g : Json → Bool) → lookup w j ≡ seen (treeAt d s) f → {b : Bool} → b ≡ may (seen (treeAt d s) f) g → b ≡ may (lookup w j) g
-found-may w j d s f g e h = rw e h
+  pub sides-to : d ≡ ToDevice → SidesOf d s f (record { network = m .second; name = m .fourth; elsewhere = m .third; stranger = m .fifth })
+  unfolding remoteNetwork remoteName deviceNetwork deviceName
+  sides-to q = rw q (record { network = h .second; name = h .fourth; elsewhere = h .third; stranger = h .fifth })
 
-module _ (d : ℕ) (s : List ℕ) (f : Found) (g : Json → Bool) where
-  pub seen-none : f ≡ Missing → true ≡ may (seen (treeAt d s) f) g
-  seen-none q = rw q
+-- ## at the place found
+module _ {s : List ℕ} {f : Found} {p : ℕ} (q : f ≡ At p) where
+  pub held-at : {e : Parts} → Held s f e → Held s (At p) e
+  held-at {e} h = subst (λ (x : Found). Held s x e) q h
 
-  pub seen-some : {p : ℕ} → f ≡ At p → {b : Bool} → b ≡ g (treeAt d s p) → b ≡ may (seen (treeAt d s) f) g
-  seen-some q h = rw q h
+  pub six-at : {depth : ℕ} {a b c d e g : List ℕ} {m : Six} → SixOf depth s a b c d e g f m → SixOf depth s a b c d e g (At p) m
+  six-at {depth} {a} {b} {c} {d} {e} {g} {m} h = subst (λ (x : Found). SixOf depth s a b c d e g x m) q h
 
-pub missing-is : (f : Found) → f ≡ Missing → true ≡ isMissing f
-missing-is f q = rw q
+-- ## all members are listed
+module _ {s : List ℕ} {f : Found} {m : Six} where
+  pub lists-mud : MudAt s f m → m .listed ≡ may (seen (treeAt 8 s) f) (only mudNames)
+  lists-mud h = h .listed
 
-pub missing-not : (f : Found) {p : ℕ} → f ≡ At p → false ≡ isMissing f
-missing-not f q = rw q
+  pub lists-ipv4 : Ipv4At s f m → m .listed ≡ may (seen (treeAt 8 s) f) (only ipv4Names)
+  lists-ipv4 h = ipv4-listed (seen (treeAt 8 s) f) (h .listed)
 
+  pub lists-port : PortAt s f m → m .listed ≡ may (seen (treeAt 7 s) f) (only portNames)
+  lists-port h = port-listed (seen (treeAt 7 s) f) (h .listed)
+
+ports-under : (names : List (List ℕ)) (m : Maybe) → (may m (only names) && (may (under (ascii "source-port") m) (only portNames) && may (under (ascii "destination-port") m) (only portNames))) ≡ may m (portsKnown names)
+unfolding portsKnown
+ports-under names none = refl
+ports-under names (some j) = refl
+
+module _ {s : List ℕ} (f : Found) {m : Six} {r : Bool} (q : r ≡ (m .listed && (may (seen (treeAt 7 s) (m .first)) (only portNames) && may (seen (treeAt 7 s) (m .second)) (only portNames)))) where
+  pub lists-tcp : TcpAt s f m → r ≡ may (seen (treeAt 8 s) f) (portsKnown tcpNames)
+  lists-tcp h = q ∙ rw (tcp-listed (seen (treeAt 8 s) f) (h .listed), ← h .first, ← h .second) (ports-under tcpNames (seen (treeAt 8 s) f))
+
+  pub lists-udp : UdpAt s f m → r ≡ may (seen (treeAt 8 s) f) (portsKnown udpNames)
+  lists-udp h = q ∙ rw (udp-listed (seen (treeAt 8 s) f) (h .listed), ← h .first, ← h .second) (ports-under udpNames (seen (treeAt 8 s) f))
+
+-- ## what is missing
 pub absent-is : (w : List ℕ) (j : Json) (d : ℕ) (s : List ℕ) (f : Found) → lookup w j ≡ seen (treeAt d s) f → {b : Bool} → b ≡ isMissing f → b ≡ may (lookup w j) (obeys Nothing)
 absent-is w j d s f e h = rw e (h ∙ go f)
   where
@@ -122,4 +129,4 @@ absent-is w j d s f e h = rw e (h ∙ go f)
     go Missing = refl
     go (At p) = refl
 
-pub ruleset placing = (needs, member-less, note-old, note-new, note-none, four-noted, four-start, four-done, four-wrong, four-more, four-missing, four-empty, four-some, parts-are)
+pub ruleset placing = (needs, parts-are, sides-from, sides-to)

@@ -1,3 +1,4 @@
 pub mod Known
 pub mod Sound
+pub mod Members
 pub mod Places

@@ -1,40 +1,50 @@
--- Members that are found in one walk: what each place found stands for.
-use Prim.Native.Nat.{ℕ, _-_}
+-- Where the members of an entry stand: what each place found stands for.
+use Prim.Native.Nat.{ℕ}
 use mathlib.Core.Path.{_≡_}
 use mathlib.Core.List.{List}
-use Rattle.text.specs.Ascii.{ascii}
 use mathlib.Core.Bool.{Bool, true, false}
+use Rattle.text.specs.Ascii.{ascii}
+use Rattle.flows.specs.declared.Direction.{Direction}
 use Rattle.values.specs.declared.Found.{Found}
 use Rattle.values.specs.declared.Found.the-variants.{At, Missing}
-use Rattle.values.specs.Tree.{Members, treeAt, find, lookup, seen}
-use Rattle.values.specs.Rules.{under, orOther}
-use Rattle.entries.specs.declared.places.Four.{Four}
+use Rattle.values.specs.Tree.{treeAt, lookup, seen}
+use Rattle.values.specs.Rules.{may, under}
+use Rattle.entries.specs.Known.{only, matchNames}
+use Rattle.entries.specs.Sound.{remoteNetwork, deviceNetwork, remoteName, deviceName}
+use Rattle.entries.specs.Members.{SixOf}
+use Rattle.entries.specs.declared.members.Six.{Six}
+use Rattle.entries.specs.declared.places.Sides.{Sides}
 use Rattle.entries.specs.declared.places.Parts.{Parts}
 
 abbrev pub isMissing : Found → Bool
 isMissing Missing = true
 isMissing (At p) = false
 
--- four names: f among some members, and what is left of them after it, are as good as r and what is left then
-pub record Noted (depth : ℕ) (s a b c d : List ℕ) (ms ms′ : Members) (f r : Four) : Type 0 where
-  pub first : orOther (seen (treeAt depth s) (f .first)) (find a ms) ≡ orOther (seen (treeAt depth s) (r .first)) (find a ms′)
-  pub second : orOther (seen (treeAt depth s) (f .second)) (find b ms) ≡ orOther (seen (treeAt depth s) (r .second)) (find b ms′)
-  pub third : orOther (seen (treeAt depth s) (f .third)) (find c ms) ≡ orOther (seen (treeAt depth s) (r .third)) (find c ms′)
-  pub fourth : orOther (seen (treeAt depth s) (f .fourth)) (find d ms) ≡ orOther (seen (treeAt depth s) (r .fourth)) (find d ms′)
+-- the members of one object each; where it has fewer than six names, one is given again
+abbrev pub MatchesAt : List ℕ → Found → Six → Type 0
+MatchesAt s found m = SixOf 9 s (ascii "ietf-mud:mud") (ascii "ipv4") (ascii "tcp") (ascii "udp") (ascii "udp") (ascii "udp") found m
 
--- the first member of each name among some members
-pub record FourFrom (depth : ℕ) (s a b c d : List ℕ) (ms : Members) (r : Four) : Type 0 where
-  pub first : find a ms ≡ seen (treeAt depth s) (r .first)
-  pub second : find b ms ≡ seen (treeAt depth s) (r .second)
-  pub third : find c ms ≡ seen (treeAt depth s) (r .third)
-  pub fourth : find d ms ≡ seen (treeAt depth s) (r .fourth)
+abbrev pub MudAt : List ℕ → Found → Six → Type 0
+MudAt s found m = SixOf 8 s (ascii "manufacturer") (ascii "model") (ascii "controller") (ascii "same-manufacturer") (ascii "local-networks") (ascii "my-controller") found m
 
--- the members of each name in what was found
-pub record FourOf (depth : ℕ) (s a b c d : List ℕ) (found : Found) (r : Four) : Type 0 where
-  pub first : under a (seen (treeAt depth s) found) ≡ seen (treeAt (depth - 1) s) (r .first)
-  pub second : under b (seen (treeAt depth s) found) ≡ seen (treeAt (depth - 1) s) (r .second)
-  pub third : under c (seen (treeAt depth s) found) ≡ seen (treeAt (depth - 1) s) (r .third)
-  pub fourth : under d (seen (treeAt depth s) found) ≡ seen (treeAt (depth - 1) s) (r .fourth)
+abbrev pub Ipv4At : List ℕ → Found → Six → Type 0
+Ipv4At s found m = SixOf 8 s (ascii "protocol") (ascii "source-ipv4-network") (ascii "destination-ipv4-network") (ascii "ietf-acldns:src-dnsname") (ascii "ietf-acldns:dst-dnsname") (ascii "protocol") found m
+
+abbrev pub PortAt : List ℕ → Found → Six → Type 0
+PortAt s found m = SixOf 7 s (ascii "lower-port") (ascii "upper-port") (ascii "port") (ascii "operator") (ascii "lower-port") (ascii "lower-port") found m
+
+abbrev pub TcpAt : List ℕ → Found → Six → Type 0
+TcpAt s found m = SixOf 8 s (ascii "source-port") (ascii "destination-port") (ascii "ietf-mud:direction-initiated") (ascii "source-port") (ascii "source-port") (ascii "source-port") found m
+
+abbrev pub UdpAt : List ℕ → Found → Six → Type 0
+UdpAt s found m = SixOf 8 s (ascii "source-port") (ascii "destination-port") (ascii "source-port") (ascii "source-port") (ascii "source-port") (ascii "source-port") found m
+
+-- the members of the `ipv4` that was found, by side
+pub record SidesOf (d : Direction) (s : List ℕ) (found : Found) (x : Sides) : Type 0 where
+  pub network : under (remoteNetwork d) (seen (treeAt 8 s) found) ≡ seen (treeAt 7 s) (x .network)
+  pub name : under (remoteName d) (seen (treeAt 8 s) found) ≡ seen (treeAt 7 s) (x .name)
+  pub elsewhere : under (deviceNetwork d) (seen (treeAt 8 s) found) ≡ seen (treeAt 7 s) (x .elsewhere)
+  pub stranger : under (deviceName d) (seen (treeAt 8 s) found) ≡ seen (treeAt 7 s) (x .stranger)
 
 -- the members of the `matches` that were found
 pub record Held (s : List ℕ) (found : Found) (e : Parts) : Type 0 where
@@ -42,6 +52,8 @@ pub record Held (s : List ℕ) (found : Found) (e : Parts) : Type 0 where
   pub ipv4 : under (ascii "ipv4") (seen (treeAt 9 s) found) ≡ seen (treeAt 8 s) (e .ipv4)
   pub tcp : under (ascii "tcp") (seen (treeAt 9 s) found) ≡ seen (treeAt 8 s) (e .tcp)
   pub udp : under (ascii "udp") (seen (treeAt 9 s) found) ≡ seen (treeAt 8 s) (e .udp)
+  pub listed : e .listed ≡ may (seen (treeAt 9 s) found) (only matchNames)
+  pub inIpv4 : Ipv4At s (e .ipv4) (e .inIpv4)
 
 -- the members of the entry at a place
 pub record PartsOf (s : List ℕ) (entry : ℕ) (e : Parts) : Type 0 where

@@ -1,25 +1,12 @@
-// Where the members of an entry and of its `matches` stand: found in one walk each, and looked at many times.
-use json::Next;
+// Where the members of an entry, and of the objects in it, stand: found in one walk of an object, and looked at many times.
+// Where an object has fewer than six names, one is given again; where it is not asked whether all are listed, none.
+use crate::members::Six;
+use crate::members::six_of;
+use flows::Direction;
 use values::Found;
-use values::walk::first_field;
-use values::walk::inner;
-use values::walk::member_place;
-use values::walk::named;
-use values::walk::next_member;
-ghost use mathlib.Core.Path.{_≡_};
-ghost use Rattle.values.specs.Tree.{treeAt, find, membersFrom, membersAfter, seen};
-ghost use Rattle.values.specs.Rules.{orOther};
-ghost use Rattle.entries.specs.Places.{Noted, FourFrom, FourOf, PartsOf};
+ghost use Rattle.entries.specs.Places.{MatchesAt, MudAt, Ipv4At, TcpAt, UdpAt, PortAt, SidesOf, PartsOf};
 
-// The values of four members of one object.
-pub struct Four {
-    pub first: Found,
-    pub second: Found,
-    pub third: Found,
-    pub fourth: Found,
-}
-
-// The members of an entry that are read, and those of its `matches`.
+// The members of an entry that are read, those of its `matches`, whether this has no others, and the members of `ipv4`.
 pub struct Parts {
     pub actions: Found,
     pub matches: Found,
@@ -27,100 +14,131 @@ pub struct Parts {
     pub ipv4: Found,
     pub tcp: Found,
     pub udp: Found,
+    pub listed: bool,
+    pub inIpv4: Six,
 }
 
-// What is known of a name after the member that begins at a place: the first member of that name counts.
-fn note(s: &[u8], j: usize, depth: usize, known: Found, name: &[u8]) -> Found
-    ensures { λ r. ⌜ orOther (seen (treeAt depth (now (s .entry))) known) (find (now (name .entry)) (membersFrom depth (now (s .entry)) j)) ≡ orOther (seen (treeAt depth (now (s .entry))) r) (find (now (name .entry)) (membersAfter depth (now (s .entry)) j)) ⌝ }
-{
-    match known {
-        Found::At(p) => Found::At(p),
-        Found::Missing => {
-            if named(s, j, name) {
-                return Found::At(member_place(s, j));
-            }
-            Found::Missing
-        }
-    }
+// The members of `ipv4` by side: the network and the name of the remote, and those of the device.
+pub struct Sides {
+    pub network: Found,
+    pub name: Found,
+    pub elsewhere: Found,
+    pub stranger: Found,
 }
 
-fn note_four(
-    s: &[u8],
-    j: usize,
-    depth: usize,
-    f: Four,
-    a: &[u8],
-    b: &[u8],
-    c: &[u8],
-    d: &[u8],
-) -> Four
-    ensures { λ r. ⌜ Noted depth (now (s .entry)) (now (a .entry)) (now (b .entry)) (now (c .entry)) (now (d .entry)) (membersFrom depth (now (s .entry)) j) (membersAfter depth (now (s .entry)) j) f r ⌝ }
+pub fn mud_at(s: &[u8], found: Found) -> Six
+    ensures { λ r. ⌜ MudAt (now (s .entry)) found r ⌝ }
 {
-    let first = f.first;
-    let second = f.second;
-    let third = f.third;
-    let fourth = f.fourth;
-    Four {
-        first: note(s, j, depth, first, a),
-        second: note(s, j, depth, second, b),
-        third: note(s, j, depth, third, c),
-        fourth: note(s, j, depth, fourth, d),
-    }
+    six_of(
+        s,
+        found,
+        8,
+        b"manufacturer",
+        b"model",
+        b"controller",
+        b"same-manufacturer",
+        b"local-networks",
+        b"my-controller",
+    )
 }
 
-// Among the members from the one that begins at a place on.
-fn four_from(s: &[u8], at: usize, depth: usize, a: &[u8], b: &[u8], c: &[u8], d: &[u8]) -> Four
-    ensures { λ r. ⌜ FourFrom depth (now (s .entry)) (now (a .entry)) (now (b .entry)) (now (c .entry)) (now (d .entry)) (membersFrom depth (now (s .entry)) at) r ⌝ }
+pub fn ipv4_at(s: &[u8], found: Found) -> Six
+    ensures { λ r. ⌜ Ipv4At (now (s .entry)) found r ⌝ }
 {
-    let mut f = Four {
-        first: Found::Missing,
-        second: Found::Missing,
-        third: Found::Missing,
-        fourth: Found::Missing,
-    };
-    let mut j = at;
-    loop {
-        f = note_four(s, j, depth, f, a, b, c, d);
-        match next_member(s, j, depth) {
-            Next::Done(_) => {
-                return f;
-            }
-            Next::Wrong(_) => {
-                return f;
-            }
-            Next::More(k) => {
-                j = k;
-            }
-        }
-    }
+    six_of(
+        s,
+        found,
+        8,
+        b"protocol",
+        b"source-ipv4-network",
+        b"destination-ipv4-network",
+        b"ietf-acldns:src-dnsname",
+        b"ietf-acldns:dst-dnsname",
+        b"protocol",
+    )
 }
 
-// Of the object that was found.
-fn four_of(s: &[u8], found: Found, depth: usize, a: &[u8], b: &[u8], c: &[u8], d: &[u8]) -> Four
-    ensures { λ r. ⌜ FourOf depth (now (s .entry)) (now (a .entry)) (now (b .entry)) (now (c .entry)) (now (d .entry)) found r ⌝ }
+pub fn port_at(s: &[u8], found: Found) -> Six
+    ensures { λ r. ⌜ PortAt (now (s .entry)) found r ⌝ }
 {
-    let none = Four {
-        first: Found::Missing,
-        second: Found::Missing,
-        third: Found::Missing,
-        fourth: Found::Missing,
-    };
-    let Found::At(p) = found else {
-        return none;
-    };
-    match first_field(s, p, depth) {
-        Found::Missing => none,
-        Found::At(j) => four_from(s, j, inner(depth), a, b, c, d),
-    }
+    six_of(
+        s,
+        found,
+        7,
+        b"lower-port",
+        b"upper-port",
+        b"port",
+        b"operator",
+        b"lower-port",
+        b"lower-port",
+    )
+}
+
+pub fn tcp_at(s: &[u8], found: Found) -> Six
+    ensures { λ r. ⌜ TcpAt (now (s .entry)) found r ⌝ }
+{
+    six_of(
+        s,
+        found,
+        8,
+        b"source-port",
+        b"destination-port",
+        b"ietf-mud:direction-initiated",
+        b"source-port",
+        b"source-port",
+        b"source-port",
+    )
+}
+
+pub fn udp_at(s: &[u8], found: Found) -> Six
+    ensures { λ r. ⌜ UdpAt (now (s .entry)) found r ⌝ }
+{
+    six_of(
+        s,
+        found,
+        8,
+        b"source-port",
+        b"destination-port",
+        b"source-port",
+        b"source-port",
+        b"source-port",
+        b"source-port",
+    )
+}
+
+fn matches_at(s: &[u8], found: Found) -> Six
+    ensures { λ r. ⌜ MatchesAt (now (s .entry)) found r ⌝ }
+{
+    six_of(
+        s,
+        found,
+        9,
+        b"ietf-mud:mud",
+        b"ipv4",
+        b"tcp",
+        b"udp",
+        b"udp",
+        b"udp",
+    )
 }
 
 pub fn parts_of(s: &[u8], entry: usize) -> Parts
     ensures { λ r. ⌜ PartsOf (now (s .entry)) entry r ⌝ }
 {
-    let e = four_of(s, Found::At(entry), 10, b"actions", b"matches", b"", b"");
+    let e = six_of(
+        s,
+        Found::At(entry),
+        10,
+        b"actions",
+        b"matches",
+        b"",
+        b"",
+        b"",
+        b"",
+    );
     let actions = e.first;
     let matches = e.second;
-    let m = four_of(s, matches, 9, b"ietf-mud:mud", b"ipv4", b"tcp", b"udp");
+    let m = matches_at(s, matches);
     let mud = m.first;
     let ipv4 = m.second;
     let tcp = m.third;
@@ -132,5 +150,32 @@ pub fn parts_of(s: &[u8], entry: usize) -> Parts
         ipv4: ipv4,
         tcp: tcp,
         udp: udp,
+        listed: m.listed,
+        inIpv4: ipv4_at(s, ipv4),
+    }
+}
+
+// "In a from-device list the destination is the remote and the source the device; in a to-device list the reverse."
+pub fn sides_of(s: &[u8], found: Found, m: Six, d: Direction) -> Sides
+    requires { ⌜ Ipv4At (now s) found m ⌝ }
+    ensures { λ r. ⌜ SidesOf d (now (s .entry)) found r ⌝ }
+{
+    let source = m.second;
+    let destination = m.third;
+    let sender = m.fourth;
+    let receiver = m.fifth;
+    match d {
+        Direction::FromDevice => Sides {
+            network: destination,
+            name: receiver,
+            elsewhere: source,
+            stranger: sender,
+        },
+        Direction::ToDevice => Sides {
+            network: source,
+            name: sender,
+            elsewhere: destination,
+            stranger: receiver,
+        },
     }
 }

@@ -32,7 +32,7 @@ use Rattle.values.specs.declared.Count.{Count}
 use Rattle.values.specs.Tree.{Json, Elements, no-more, element, elementsAfter, items, itemsFrom, treeAt, treeOf, lookup, seen, isNull, isString, isBool, countOf}
 use Rattle.values.specs.Rules.{must, may, within, text}
 use Rattle.values.proofs.Walking.{elements-turn, element-after-done, element-after-wrong, element-after-more}
-use Rattle.values.proofs.Patterns.{must-none, must-some, may-none, may-some, text-is, text-not}
+use Rattle.values.proofs.Patterns.{text-is, text-not}
 use Rattle.text.specs.Bytes.{between}
 use Rattle.text.specs.Bytes.{isAt}
 use Rattle.text.specs.Numbers.{numberAt, quadAt}
@@ -385,4 +385,26 @@ module _ (s : List ℕ) {i : ℕ} (g : i ≡ spanAt isSpace s 0) {r : Found} (e 
   unfolding outermostOk treeOf
   outermost-some q h = rw (← g, e, q) h
 
-pub ruleset asking = (needs, past-is, not-true, not-false, text-not, text-is, nulls-empty, nulls-not, nulls-done, nulls-wrong, nulls-more, asked-text, asked-boolean, asked-nulls, asked-integer, asked-spelt, asked-nothing, form-url, form-network, form-forwarding, form-operator, form-initiator, must-none, must-some, may-none, may-some, header-version, header-url, header-update, header-supported, header-validity, outermost-none, outermost-some)
+-- what was found, and a member that is what was found
+module _ (d : ℕ) (s : List ℕ) (f : Found) (g : Json → Bool) where
+  pub seen-none : f ≡ Missing → true ≡ may (seen (treeAt d s) f) g
+  seen-none q = rw q
+
+  pub unseen : f ≡ Missing → false ≡ must (seen (treeAt d s) f) g
+  unseen q = rw q
+
+  module _ {p : ℕ} (q : f ≡ At p) {b : Bool} (h : b ≡ g (treeAt d s p)) where
+    pub seen-some : b ≡ may (seen (treeAt d s) f) g
+    seen-some = rw q h
+
+    pub seen-must : b ≡ must (seen (treeAt d s) f) g
+    seen-must = rw q h
+
+module _ (w : List ℕ) (j : Json) (d : ℕ) (s : List ℕ) (f : Found) (g : Json → Bool) (e : lookup w j ≡ seen (treeAt d s) f) {d′ : ℕ} (z : d′ ≡ d) {b : Bool} where
+  pub found-may : b ≡ may (seen (treeAt d′ s) f) g → b ≡ may (lookup w j) g
+  found-may h = rw (e, ← z) h
+
+  pub found-must : b ≡ must (seen (treeAt d′ s) f) g → b ≡ must (lookup w j) g
+  found-must h = rw (e, ← z) h
+
+pub ruleset asking = (needs, seen-none, unseen, seen-some, seen-must, found-may, found-must, past-is, not-true, not-false, text-not, text-is, nulls-empty, nulls-not, nulls-done, nulls-wrong, nulls-more, asked-text, asked-boolean, asked-nulls, asked-integer, asked-spelt, asked-nothing, form-url, form-network, form-forwarding, form-operator, form-initiator, header-version, header-url, header-update, header-supported, header-validity, outermost-none, outermost-some)

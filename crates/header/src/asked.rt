@@ -12,7 +12,7 @@ use values::walk::member;
 use values::walk::next_element;
 ghost use mathlib.Core.Path.{_≡_};
 ghost use Rattle.values.specs.Decode.{bytesAt};
-ghost use Rattle.values.specs.Tree.{treeAt, lookup};
+ghost use Rattle.values.specs.Tree.{treeAt, lookup, seen};
 ghost use Rattle.values.specs.Rules.{must, may, text};
 ghost use Rattle.header.specs.Asked.{isNullArray, isNetwork, spelt, obeys};
 
@@ -96,22 +96,36 @@ pub fn obeys(s: &[u8], at: usize, depth: usize, asked: Asked) -> bool
     }
 }
 
+// Whether something was found that is what is asked for.
+pub fn must_obey(s: &[u8], found: Found, depth: usize, asked: Asked) -> bool
+    ensures { λ r. ⌜ r ≡ must (seen (treeAt depth (now (s .entry))) found) (obeys asked) ⌝ }
+{
+    match found {
+        Found::Missing => false,
+        Found::At(p) => obeys(s, p, depth, asked),
+    }
+}
+
+// The same where nothing may have been found.
+pub fn may_obey(s: &[u8], found: Found, depth: usize, asked: Asked) -> bool
+    ensures { λ r. ⌜ r ≡ may (seen (treeAt depth (now (s .entry))) found) (obeys asked) ⌝ }
+{
+    match found {
+        Found::Missing => true,
+        Found::At(p) => obeys(s, p, depth, asked),
+    }
+}
+
 // Whether the object at a place has a member of that name, which is what is asked for.
 pub fn must_be(s: &[u8], at: usize, depth: usize, name: &[u8], asked: Asked) -> bool
     ensures { λ r. ⌜ r ≡ must (lookup (now (name .entry)) (treeAt depth (now (s .entry)) at)) (obeys asked) ⌝ }
 {
-    match member(s, at, depth, name) {
-        Found::Missing => false,
-        Found::At(p) => obeys(s, p, inner(depth), asked),
-    }
+    must_obey(s, member(s, at, depth, name), inner(depth), asked)
 }
 
 // The same where the member may be missing.
 pub fn may_be(s: &[u8], at: usize, depth: usize, name: &[u8], asked: Asked) -> bool
     ensures { λ r. ⌜ r ≡ may (lookup (now (name .entry)) (treeAt depth (now (s .entry)) at)) (obeys asked) ⌝ }
 {
-    match member(s, at, depth, name) {
-        Found::Missing => true,
-        Found::At(p) => obeys(s, p, inner(depth), asked),
-    }
+    may_obey(s, member(s, at, depth, name), inner(depth), asked)
 }

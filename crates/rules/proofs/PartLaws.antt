@@ -1,7 +1,7 @@
 -- Laws of the parts of an entry.
-use Prim.Native.Nat.{ℕ, _+_, _-_, _%_, _≤_, _<_}
+use Prim.Native.Nat.{ℕ, _+_, _%_, _≤_, _<_}
 use native.Mathlib.Nat.{mod-eq-of-lt}
-use mathlib.Core.Path.{_≡_, refl, ap, _∙_}
+use mathlib.Core.Path.{_≡_, refl, sym, ap, _∙_}
 use mathlib.Core.List.{List, []}
 use mathlib.Core.Bool.{Bool, true, false}
 use lib.ListN.{getD}
@@ -15,14 +15,13 @@ use Rattle.text.specs.Networks.{networkAt}
 use Rattle.text.specs.declared.networks.Block.{Block}
 use Rattle.text.specs.declared.networks.Block.the-variants.{Net, NoNet}
 use Rattle.flows.specs.declared.Direction.{Direction}
-use Rattle.flows.specs.declared.Direction.the-variants.{FromDevice, ToDevice}
 use Rattle.json.proofs.Runs.{past-is}
 use Rattle.values.specs.declared.Count.{Count}
 use Rattle.values.specs.declared.Count.the-variants.{Is, Not}
 use Rattle.values.specs.declared.Found.{Found}
 use Rattle.values.specs.declared.Found.the-variants.{At, Missing}
 use Rattle.values.specs.Decode.{bytesAt}
-use Rattle.values.specs.Tree.{Maybe, some, treeAt, lookup, seen, countOf}
+use Rattle.values.specs.Tree.{Maybe, some, treeAt, seen, countOf}
 use Rattle.values.proofs.Trees.{tree-string}
 use Rattle.values.proofs.Patterns.{no-bytes}
 use Rattle.header.specs.Asked.{isNetwork, netIn}
@@ -33,10 +32,6 @@ use Rattle.rules.specs.declared.parts.Between.{Between}
 
 abbrev span : ℕ → ℕ → Between
 span a b = record { low = a; high = b }
-
--- ## members of what was found
-pub under-some : (w : List ℕ) (d : ℕ) (s : List ℕ) (f : Found) {p : ℕ} → f ≡ At p → (r : Found) → lookup w (treeAt d s p) ≡ seen (treeAt (d - 1) s) r → under w (seen (treeAt d s) f) ≡ seen (treeAt (d - 1) s) r
-under-some w d s f q r h = rw q h
 
 -- ## numbers
 module _ (c : Count) (z : Between) where
@@ -105,9 +100,16 @@ module _ (s : List ℕ) (m : Maybe) (t : Found) (e : under (ascii "tcp") m ≡ s
     unfolding protocols
     protocols-ipv4 y i g n h k = rw (e, q, f, y, g, h) k
 
-  pub openers-tcp : (n : Found) → under (ascii "ietf-mud:direction-initiated") (seen (treeAt 8 s) t) ≡ seen (treeAt 7 s) n → {r : Between} → r ≡ openerIn (seen (treeAt 7 s) n) → r ≡ openers m
+  pub openers-none : t ≡ Missing → span 0 1 ≡ openers m
   unfolding openers
-  openers-tcp n h k = rw (e, h) k
+  openers-none q = rw (e, q)
+
+  pub openers-tcp : {p : ℕ} → t ≡ At p → (u : Found) → transport m ≡ seen (treeAt 8 s) u → (n : Found) → under (ascii "ietf-mud:direction-initiated") (seen (treeAt 8 s) u) ≡ seen (treeAt 7 s) n → {r : Between} → r ≡ openerIn (seen (treeAt 7 s) n) → r ≡ openers m
+  unfolding openers transport
+  openers-tcp {p} q u f n h k =
+      let y : under (ascii "tcp") m ≡ some (treeAt 8 s p) = rw q at e in
+      let z : some (treeAt 8 s p) ≡ seen (treeAt 8 s) u = rw y at f in
+      k ∙ ap openerIn (sym h ∙ ap (under (ascii "ietf-mud:direction-initiated")) (sym (y ∙ z)))
 
   pub transport-tcp : {p : ℕ} → t ≡ At p → transport m ≡ some (treeAt 8 s p)
   unfolding transport
@@ -117,17 +119,8 @@ module _ (s : List ℕ) (m : Maybe) (t : Found) (e : under (ascii "tcp") m ≡ s
   unfolding transport
   transport-udp q u f = rw (e, q) f
 
-module _ (d : Direction) (s : List ℕ) (m : Maybe) (r : Found) where
-  pub remote-from : d ≡ FromDevice → under (ascii "destination-ipv4-network") m ≡ seen (treeAt 7 s) r → under (remoteNetwork d) m ≡ seen (treeAt 7 s) r
-  unfolding remoteNetwork
-  remote-from q h = rw q h
-
-  pub remote-to : d ≡ ToDevice → under (ascii "source-ipv4-network") m ≡ seen (treeAt 7 s) r → under (remoteNetwork d) m ≡ seen (treeAt 7 s) r
-  unfolding remoteNetwork
-  remote-to q h = rw q h
-
 pub networks-ipv4 : (d : Direction) (s : List ℕ) (m : Maybe) (i : Found) → under (ascii "ipv4") m ≡ seen (treeAt 8 s) i → (n : Found) → under (remoteNetwork d) (seen (treeAt 8 s) i) ≡ seen (treeAt 7 s) n → {r : Between} → r ≡ networkIn (seen (treeAt 7 s) n) → r ≡ networks d m
 unfolding networks
 networks-ipv4 d s m i g n h k = rw (g, h) k
 
-pub ruleset parting = (needs, past-is, under-some, number-or-not, number-or-is, number-or-high, protocol-none, protocol-some, opener-none, network-none, opener-other, network-other, opener-device, opener-remote, network-malformed, network-is, protocols-tcp, protocols-udp, protocols-ipv4, openers-tcp, transport-tcp, transport-udp, remote-from, remote-to, networks-ipv4)
+pub ruleset parting = (needs, past-is, number-or-not, number-or-is, number-or-high, protocol-none, protocol-some, opener-none, network-none, opener-other, network-other, opener-device, opener-remote, network-malformed, network-is, protocols-tcp, protocols-udp, protocols-ipv4, openers-none, openers-tcp, transport-tcp, transport-udp, networks-ipv4)

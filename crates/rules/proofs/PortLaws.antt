@@ -1,5 +1,5 @@
 -- Laws of port objects as ranges, and that the ranges hold the ports that the object matches.
-use Prim.Native.Nat.{ℕ, _+_, _-_, _%_, _≤_, _<_}
+use Prim.Native.Nat.{ℕ, _+_, _%_, _≤_, _<_}
 use native.Mathlib.Omega.{arith}
 use native.Mathlib.Nat.{mod-eq-of-lt}
 use mathlib.Core.Path.{_≡_, refl, sym, ap, _∙_}
@@ -21,7 +21,7 @@ use Rattle.values.proofs.Trees.{tree-string}
 use Rattle.values.proofs.Sorts.{string-kind}
 use Rattle.values.proofs.Patterns.{inside-none, inside-some}
 use Rattle.rules.specs.Meaning.{operatorOf}
-use Rattle.rules.specs.Ports.{portNumber, oneRange, byOperator}
+use Rattle.rules.specs.Ports.{portNumber, oneRange, byOperator, allPorts, portsOf, portsIn}
 use Rattle.rules.specs.declared.ports.Ports.{Ports}
 
 -- ## a choice, by what was tested
@@ -65,23 +65,30 @@ equal-operator : (n : ℕ) → oneRange n n ≡ byOperator (ascii "eq") n
 unfolding byOperator
 equal-operator n = refl
 
-module _ (s : List ℕ) (at n : ℕ) {f : Found} (e : lookup (ascii "operator") (treeAt 7 s at) ≡ seen (treeAt 6 s) f) {r : Ports} where
-  pub operator-none : f ≡ Missing → r ≡ oneRange n n → r ≡ byOperator (operatorOf (lookup (ascii "operator") (treeAt 7 s at))) n
-  operator-none q h = rw (e, q) (h ∙ equal-operator n)
+module _ (s : List ℕ) (n : ℕ) (f : Found) {r : Ports} where
+  pub operator-none : f ≡ Missing → r ≡ oneRange n n → r ≡ byOperator (operatorOf (seen (treeAt 6 s) f)) n
+  operator-none q h = rw q (h ∙ equal-operator n)
 
   module _ {p : ℕ} (q : f ≡ At p) {b : ℕ} (g : b ≡ getD s p 0) where
-    pub operator-other : (b ≡ 34 → ⊥) → r ≡ oneRange n n → r ≡ byOperator (operatorOf (lookup (ascii "operator") (treeAt 7 s at))) n
+    pub operator-other : (b ≡ 34 → ⊥) → r ≡ oneRange n n → r ≡ byOperator (operatorOf (seen (treeAt 6 s) f)) n
     operator-other u h =
-        rw (e, q) (h ∙ (equal-operator n ∙ ap (λ o. byOperator o n) (sym (no-operator (treeAt 6 s p) (sym (string-kind 6 s p b g) ∙ ne-eqb b 34 u)))))
+        rw q (h ∙ (equal-operator n ∙ ap (λ o. byOperator o n) (sym (no-operator (treeAt 6 s p) (sym (string-kind 6 s p b g) ∙ ne-eqb b 34 u)))))
 
-    pub operator-is : b ≡ 34 → r ≡ byOperator (bytesAt s (p + 1)) n → r ≡ byOperator (operatorOf (lookup (ascii "operator") (treeAt 7 s at))) n
-    operator-is u h = rw (e, q, tree-string 6 s p g u) h
+    pub operator-is : b ≡ 34 → r ≡ byOperator (bytesAt s (p + 1)) n → r ≡ byOperator (operatorOf (seen (treeAt 6 s) f)) n
+    operator-is u h = rw (q, tree-string 6 s p g u) h
+
+pub operator-found : (w : List ℕ) (j : Json) (s : List ℕ) (f : Found) (n m : ℕ) → lookup w j ≡ seen (treeAt 6 s) f → n ≡ m → {r : Ports} → r ≡ byOperator (operatorOf (seen (treeAt 6 s) f)) n → r ≡ byOperator (operatorOf (lookup w j)) m
+operator-found w j s f n m e z h = rw (e, ← z) h
 
 -- ## a port object
+module _ (s : List ℕ) (f : Found) {r : Ports} where
+  pub port-none : f ≡ Missing → r ≡ allPorts → r ≡ portsIn (seen (treeAt 7 s) f)
+  port-none = inside-none (seen (treeAt 7 s) f) 7 s refl portsOf allPorts
+
+  pub port-some : {p : ℕ} → f ≡ At p → r ≡ portsOf (treeAt 7 s p) → r ≡ portsIn (seen (treeAt 7 s) f)
+  port-some = inside-some (seen (treeAt 7 s) f) 7 s refl portsOf allPorts
+
 pub one-range : (a b c d : ℕ) → a ≡ c → b ≡ d → {r : Ports} → r ≡ oneRange a b → r ≡ oneRange c d
 one-range a b c d p q h = rw (← p, ← q) h
 
-pub operator-number : (o : List ℕ) (n m : ℕ) → n ≡ m → {r : Ports} → r ≡ byOperator o n → r ≡ byOperator o m
-operator-number o n m e h = rw (← e) h
-
-pub ruleset porting = (needs, past-is, cond-yes, cond-no, cond-eq, cond-ne, number-not, number-low, number-high, number-of, operator-none, operator-other, operator-is, inside-none, inside-some, one-range, operator-number)
+pub ruleset porting = (needs, past-is, cond-yes, cond-no, cond-eq, cond-ne, number-not, number-low, number-high, number-of, operator-none, operator-other, operator-is, operator-found, inside-none, inside-some, port-none, port-some, one-range)

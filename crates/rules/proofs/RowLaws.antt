@@ -1,11 +1,11 @@
 -- Laws of rules in words.
-use Prim.Native.Nat.{ℕ, zero, suc, _+_, _-_, _*_, _≤_, _<_}
+use Prim.Native.Nat.{ℕ, suc, _+_, _-_, _*_, _≤_, _<_}
 use native.Mathlib.Nat.{add-zero}
 use native.Mathlib.Numerals.{add-one}
 use native.Mathlib.Omega.{arith}
 use mathlib.Core.Path.{_≡_, refl, sym, ap, _∙_, subst}
-use mathlib.Core.Bool.{Bool, true, false, cond}
-use mathlib.Core.List.{List, [], _∷_, _++_}
+use mathlib.Core.Bool.{Bool, false, cond}
+use mathlib.Core.List.{List, [], _∷_, _++_, append-assoc}
 use lib.ListN.{length, set}
 use lib.Seq.{sets, set-out, set-comm}
 use borrow.Author.Needs.{needs}
@@ -20,9 +20,9 @@ use Rattle.json.proofs.Runs.{past-is}
 use Rattle.values.specs.declared.Found.{Found}
 use Rattle.values.specs.declared.Found.the-variants.{At, Missing}
 use Rattle.values.specs.Decode.{bytesAt}
-use Rattle.values.specs.Rules.{must, text, bytesIn, StringAt, under}
-use Rattle.values.specs.Tree.{Json, Maybe, none, some, treeAt, lookup, seen}
-use Rattle.values.proofs.Patterns.{must-none, must-some, text-is, text-not, string-found}
+use Rattle.values.specs.Rules.{text, bytesIn, StringAt, under}
+use Rattle.values.specs.Tree.{Json, Maybe, treeAt, lookup, seen}
+use Rattle.values.proofs.Patterns.{text-is, text-not, string-found}
 use Rattle.site.specs.Url.{authorityOf, sameHost, sameAuthority, sameName}
 use Rattle.site.specs.declared.lines.Kind.{Kind}
 use Rattle.site.specs.declared.lines.Kind.the-variants as kind
@@ -37,7 +37,7 @@ use Rattle.entries.specs.declared.places.Parts.{Parts}
 use Rattle.rules.specs.Meaning.{entryAccepts}
 use Rattle.rules.specs.Ports.{portsIn}
 use Rattle.rules.specs.Parts.{protocols, openers, networks, transport}
-use Rattle.rules.specs.Names.{maskIf, masked, thingMasks, classMask, nullMasks, hostMask, maskWords}
+use Rattle.rules.specs.Names.{maskIf, masked, thingMasks, classMask, nullMasks, mudMasks, hostMask, maskWords}
 use Rattle.rules.specs.Rows.{portSides, directionSpan, rowOf, spanWords, portsWords, frontWords, backWords, rowWords, limitWords, ruleWords}
 use Rattle.rules.specs.Defaults.{defaultRow, defaultWords, dnsWords, ntpWords}
 use Rattle.rules.specs.declared.parts.Between.{Between}
@@ -121,20 +121,19 @@ pub host-put : {l o : List ℕ} {at r a : ℕ} (d : Direction) (s site : List �
 unfolding hostMask
 host-put d s site ipv4 f e a p = by-string s site (remoteName d) ipv4 f e kind.Host (λ b n. sameHost n b) a p
 
-pub names-put : {k l m n o : List ℕ} {at p q r z : ℕ} (d : Direction) (s site url : List ℕ) (f : Found) (e : Parts) → Held s f e →
-    Put k at (thingMasks site (seen (treeAt 8 s) (e .mud))) p l → Put l p (classMask site (seen (treeAt 8 s) (e .mud))) q m → Put m q (nullMasks site url (seen (treeAt 8 s) (e .mud))) r n →
-    Put n r (hostMask d site (seen (treeAt 8 s) (e .ipv4))) z o → Put k at (maskWords d site url (seen (treeAt 9 s) f)) z o
+pub mud-put : {l m n o : List ℕ} {at p q r : ℕ} (site url : List ℕ) (mud : Maybe) → Put l at (thingMasks site mud) p m → Put m p (classMask site mud) q n → Put n q (nullMasks site url mud) r o → Put l at (mudMasks site url mud) r o
+mud-put site url mud a b c = andThen a (andThen b c)
+
+pub names-put : {l m o : List ℕ} {at p r : ℕ} (d : Direction) (s site url : List ℕ) (f : Found) (e : Parts) → Held s f e →
+    Put l at (mudMasks site url (seen (treeAt 8 s) (e .mud))) p m → Put m p (hostMask d site (seen (treeAt 8 s) (e .ipv4))) r o → Put l at (maskWords d site url (seen (treeAt 9 s) f)) r o
 unfolding maskWords
-names-put d s site url f e h a b c y = rw (h .mud, h .ipv4) (andThen a (andThen b (andThen c y)))
-
-module _ (d : Direction) (s : List ℕ) (m : Maybe) (r : Found) where
-  pub host-from : d ≡ FromDevice → under (ascii "ietf-acldns:dst-dnsname") m ≡ seen (treeAt 7 s) r → under (remoteName d) m ≡ seen (treeAt 7 s) r
-  unfolding remoteName
-  host-from q h = rw q h
-
-  pub host-to : d ≡ ToDevice → under (ascii "ietf-acldns:src-dnsname") m ≡ seen (treeAt 7 s) r → under (remoteName d) m ≡ seen (treeAt 7 s) r
-  unfolding remoteName
-  host-to q h = rw q h
+names-put {l} {m} {o} {at} {p} {r} d s site url f e h a b =
+    let mud = seen (treeAt 8 s) (e .mud) in
+    let host = hostMask d site (seen (treeAt 8 s) (e .ipv4)) in
+    rw (h .mud, h .ipv4)
+    (subst (λ (w : List ℕ). Put l at w r o)
+    (append-assoc (thingMasks site mud) (classMask site mud ++ nullMasks site url mud) host ∙ ap (λ (w : List ℕ). thingMasks site mud ++ w) (append-assoc (classMask site mud) (nullMasks site url mud) host))
+    (andThen a b))
 
 -- ## the count before the masks
 sets-set : (l : List ℕ) (i at x : ℕ) (xs : List ℕ) → i < at → set (sets l at xs) i x ≡ sets (set l i x) at xs
@@ -148,6 +147,9 @@ limits-put {l} {m} {o} {at} {r} d site url x p e =
     record { place = omega (arith, p .place); text = e .text ∙ rw (z, p .text, add-one at) (sets-set l at (suc at) (length xs) xs (omega arith)) }
 
 -- ## the parts of a rule
+pub under-ports : (w : List ℕ) (m : Maybe) (s : List ℕ) (f : Found) → under w m ≡ seen (treeAt 7 s) f → {r : Ports} → r ≡ portsIn (seen (treeAt 7 s) f) → r ≡ portsIn (under w m)
+under-ports w m s f e h = rw e h
+
 module _ (d : Direction) (t : Maybe) {a b : Ports} (f : a ≡ portsIn (under (ascii "source-port") t)) (g : b ≡ portsIn (under (ascii "destination-port") t)) where
   pub sides-from : d ≡ FromDevice → record { remote = b; device = a } ≡ portSides d t
   unfolding portSides
@@ -197,4 +199,4 @@ module _ {l o : List ℕ} {at r : ℕ} (site : List ℕ) where
   unfolding ntpWords
   ntp-put h = h
 
-pub ruleset rowing = (needs, past-is, word-put, word-out, span-put, ports-put, front-put, back-put, row-put, mask-none, mask-some, nulls-put, things-put, class-put, host-put, names-put, host-from, host-to, limits-put, sides-from, sides-to, only-is, row-is, accepts-none, accepts-missing, accepts-is, text-is, text-not, rule-put, default-put, dns-put, ntp-put)
+pub ruleset rowing = (needs, past-is, word-put, word-out, span-put, ports-put, front-put, back-put, row-put, mask-none, mask-some, nulls-put, things-put, class-put, host-put, mud-put, names-put, limits-put, under-ports, sides-from, sides-to, only-is, row-is, accepts-none, accepts-missing, accepts-is, text-is, text-not, rule-put, default-put, dns-put, ntp-put)

@@ -1,12 +1,12 @@
 -- A rule in words holds exactly the flows that its entry matches.
-use Prim.Native.Nat.{ℕ, zero, suc, _+_, _-_, _*_, _/_, _%_, _≤_, _<_}
+use Prim.Native.Nat.{ℕ, _+_, _*_, _/_, _%_, _≤_, _<_}
 use native.Mathlib.Omega.{arith}
 use mathlib.Core.Path.{_≡_, refl, sym, ap, ap₂, _∙_, subst}
 use mathlib.Core.List.{List, [], _∷_, _++_}
 use mathlib.Core.Bool.{Bool, true, false, not, _&&_, cond, and-true}
-use lib.ListN.{length, drop, getD, length-append}
-use lib.Dec.{leb, ltb, eqb}
-use borrow.Author.Tests.{lt-ltb, le-ltb, eq-eqb, eqb-true, ltb-true, ltb-false, leb-true}
+use lib.ListN.{length, getD, length-append}
+use lib.Dec.{ltb, eqb}
+use borrow.Author.Tests.{lt-ltb, ltb-true, ltb-false}
 use Rattle.text.specs.Ascii.{ascii}
 use Rattle.text.specs.Words.{sameBytes}
 use Rattle.text.specs.Networks.{networkAt}
@@ -14,38 +14,38 @@ use Rattle.text.specs.declared.networks.Block.{Block}
 use Rattle.text.specs.declared.networks.Block.the-variants.{Net, NoNet}
 use Rattle.text.proofs.NetworkLaws.{SoundNet, network-sound}
 use Rattle.text.proofs.Tests.{by-test, and-left, and-right, split, both, clash}
-use Rattle.flows.specs.Table.{Point, Range, _to_, inRange}
+use Rattle.flows.specs.Table.{Range, _to_, inRange}
 use Rattle.flows.specs.Rules.{inSome, inAll, inBox}
 use Rattle.flows.specs.Numbers.{directionNumber}
 use Rattle.flows.specs.declared.Direction.{Direction}
 use Rattle.flows.specs.declared.Direction.the-variants.{FromDevice, ToDevice}
 use Rattle.flows.proofs.Runs.{in-yes, in-low, in-high}
-use Rattle.builder.specs.Encoding.{lowOf, highOf, rangeOf, namedBy, nameLimits, atMostSeven, limitsOf, boxOf, accepting}
+use Rattle.builder.specs.Encoding.{rangeOf, namedBy, nameLimits, atMostSeven, limitsOf, boxOf, accepting}
 use Rattle.values.specs.declared.Count.{Count}
 use Rattle.values.specs.declared.Count.the-variants.{Is, Not}
 use Rattle.values.specs.Tree.{Json, null, bool, integer, real, string, array, object, Maybe, none, some, lookup, countOf, isObject}
-use Rattle.values.specs.Rules.{must, may, inside, within, text, bytesIn, under, ifThere, orOther}
+use Rattle.values.specs.Rules.{must, may, inside, text, bytesIn, under, ifThere}
 use Rattle.site.specs.Site.{lines}
 use Rattle.site.specs.Url.{authorityOf, sameHost, sameAuthority, sameName}
 use Rattle.site.specs.declared.lines.Kind.{Kind}
 use Rattle.site.specs.declared.lines.Kind.the-variants.{Host, Class, Mine, Local, Thing}
-use Rattle.naming.specs.Named.{names, inNamed, standsFor, isHost, isClass, isMine, isLocal, isMadeBy, isModel}
-use Rattle.naming.specs.Masks.{networkWords, namedMask}
+use Rattle.naming.specs.Named.{names, standsFor, isHost, isClass, isMadeBy}
+use Rattle.naming.specs.Masks.{networkWords}
 use Rattle.naming.proofs.Masking.{mask-holds}
-use Rattle.header.specs.Asked.{isNetwork, wholeNet, netIn, spelt, obeys}
-use Rattle.header.specs.declared.asked.Asked.the-variants.{Text, Nulls, Integer, Spelt, Nothing}
+use Rattle.header.specs.Asked.{isNetwork, wholeNet, netIn, obeys}
+use Rattle.header.specs.declared.asked.Asked.the-variants.{Text, Integer, Spelt, Nothing}
 use Rattle.header.specs.declared.asked.Form.the-variants.{Network, Initiator}
 use Rattle.entries.specs.Sound.{stringsOk, nullsOk, mudOk, remoteNetwork, remoteName, sidesNamed, sidesOk, ipv4Ok, portOk, portsOk, tcpOk, protocolIs, tcpBeside, udpBeside, transportOk, matchesOk, entryOk}
-use Rattle.rules.specs.Meaning.{equals, inNet, mudHolds, ipv4Holds, portHolds, sourceOf, destinationOf, portsHold, openerHolds, matchesHold, entryHolds, entryAccepts}
+use Rattle.rules.specs.Meaning.{equals, inNet, mudHolds, ipv4Holds, portHolds, portsHold, openerHolds, matchesHold, entryHolds, entryAccepts}
 use Rattle.rules.specs.Ports.{portNumber, oneRange, ranges, otherThan, byOperator, portsOf, portsIn, allPorts}
 use Rattle.rules.specs.Words.{rangesOf}
 use Rattle.rules.specs.Parts.{numberOr, protocolIn, protocols, openerIn, openers, netOr, networkIn, networks, transport}
 use Rattle.rules.specs.Names.{maskIf, masked, makerMask, modelMask, controllerMask, kinMask, localMask, mineMask, dnsMask, thingMasks, classMask, nullMasks, hostMask, maskWords}
-use Rattle.rules.specs.Rows.{portSides, rowOf, spanWords, portsWords, rowWords, limitWords, ruleWords}
-use Rattle.rules.specs.Defaults.{defaultRow, defaultWords}
+use Rattle.rules.specs.Rows.{portSides, rowOf, spanWords, portsWords, ruleWords}
+use Rattle.rules.specs.Defaults.{defaultWords}
 use Rattle.rules.specs.declared.parts.Between.{Between}
 use Rattle.rules.specs.declared.ports.Ports.{Ports}
-use Rattle.rules.proofs.PortsHold.{There, must-there, absent-none, Counted, counted, one-holds, single-holds, ports-hold}
+use Rattle.rules.proofs.PortsHold.{absent-none, counted, one-holds, single-holds, ports-hold}
 
 -- two tests that pass together are the same
 pub same-test : {a b : Bool} → (a ≡ true → b ≡ true) → (b ≡ true → a ≡ true) → a ≡ b

@@ -54,6 +54,9 @@ nullMasks site url mud =
     kinMask site url (under (ascii "same-manufacturer") mud)
     ++ (localMask site (under (ascii "local-networks") mud) ++ mineMask site url (under (ascii "my-controller") mud))
 
+abbrev pub mudMasks : List ℕ → List ℕ → Maybe → List ℕ
+mudMasks site url mud = thingMasks site mud ++ (classMask site mud ++ nullMasks site url mud)
+
 -- `ipv4`: a DNS name on the remote's side
 unfoldable pub hostMask : Direction → List ℕ → Maybe → List ℕ
 hostMask d site ipv4 = dnsMask site (under (remoteName d) ipv4)

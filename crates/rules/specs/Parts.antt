@@ -1,6 +1,5 @@
 -- The parts of an entry, one for each dimension, as ranges. `m` is the entry's `matches`, if there is one.
 use Prim.Native.Nat.{ℕ}
-use mathlib.Core.List.{List}
 use mathlib.Core.Bool.{cond}
 use lib.Dec.{ltb}
 use Rattle.text.specs.Ascii.{ascii}

@@ -1,6 +1,8 @@
 // The names of an entry, as masks over the site's lines: one word for each name that is given, one after the other.
-use crate::parts::member_in;
+use entries::members::Six;
 use entries::places::Parts;
+use entries::places::mud_at;
+use entries::places::sides_of;
 use flows::Direction;
 use naming::masks::mask;
 use naming::wanted::Wanted;
@@ -15,10 +17,8 @@ ghost use Rattle.values.specs.Tree.{treeAt, seen};
 ghost use Rattle.naming.specs.Named.{names};
 ghost use Rattle.naming.specs.Masks.{namedMask, PlacesOf};
 ghost use Rattle.naming.specs.Wanted.{kindOf, testOf};
-ghost use Rattle.entries.specs.Sound.{remoteName};
-ghost use Rattle.entries.specs.Places.{Held};
-ghost use Rattle.values.specs.Rules.{under};
-ghost use Rattle.rules.specs.Names.{maskIf, thingMasks, classMask, nullMasks, hostMask, maskWords};
+ghost use Rattle.entries.specs.Places.{MudAt, Ipv4At, Held};
+ghost use Rattle.rules.specs.Names.{maskIf, thingMasks, classMask, nullMasks, mudMasks, hostMask, maskWords};
 
 // A word at a place, if the buffer has it; the place after it.
 pub fn put_word(work: &mut [u64], at: usize, x: u64) -> usize
@@ -61,12 +61,13 @@ fn put_things(
     work: &mut [u64],
     at: usize,
     mud: Found,
+    m: Six,
 ) -> usize
-    requires { ⌜ PlacesOf (now site) (now places) × (at ≤ 3000) ⌝ }
+    requires { ⌜ PlacesOf (now site) (now places) × (at ≤ 3000) × MudAt (now s) mud m ⌝ }
     ensures { λ r. ⌜ Put (now (work .entry)) at (thingMasks (now (site .entry)) (seen (treeAt 8 (now (s .entry))) mud)) r (now (work .exit)) ⌝ }
     ensures { λ r. ⌜ r ≤ at + 2 ⌝ }
 {
-    let maker = member_in(s, mud, 8, b"manufacturer");
+    let maker = m.first;
     let p = put_mask(
         s,
         site,
@@ -76,7 +77,7 @@ fn put_things(
         maker,
         Wanted::Maker(string_place(s, maker)),
     );
-    let model = member_in(s, mud, 8, b"model");
+    let model = m.second;
     put_mask(
         s,
         site,
@@ -96,12 +97,13 @@ fn put_class(
     work: &mut [u64],
     at: usize,
     mud: Found,
+    m: Six,
 ) -> usize
-    requires { ⌜ PlacesOf (now site) (now places) × (at ≤ 3000) ⌝ }
+    requires { ⌜ PlacesOf (now site) (now places) × (at ≤ 3000) × MudAt (now s) mud m ⌝ }
     ensures { λ r. ⌜ Put (now (work .entry)) at (classMask (now (site .entry)) (seen (treeAt 8 (now (s .entry))) mud)) r (now (work .exit)) ⌝ }
     ensures { λ r. ⌜ r ≤ at + 1 ⌝ }
 {
-    let class = member_in(s, mud, 8, b"controller");
+    let class = m.third;
     put_mask(
         s,
         site,
@@ -121,28 +123,39 @@ fn put_nulls(
     work: &mut [u64],
     at: usize,
     mud: Found,
+    m: Six,
     url: usize,
 ) -> usize
-    requires { ⌜ PlacesOf (now site) (now places) × (at ≤ 3000) ⌝ }
+    requires { ⌜ PlacesOf (now site) (now places) × (at ≤ 3000) × MudAt (now s) mud m ⌝ }
     ensures { λ r. ⌜ Put (now (work .entry)) at (nullMasks (now (site .entry)) (bytesAt (now (s .entry)) url) (seen (treeAt 8 (now (s .entry))) mud)) r (now (work .exit)) ⌝ }
     ensures { λ r. ⌜ r ≤ at + 3 ⌝ }
 {
-    let kin = member_in(s, mud, 8, b"same-manufacturer");
+    let kin = m.fourth;
     let p = put_mask(s, site, places, work, at, kin, Wanted::Kin(url));
-    let local = member_in(s, mud, 8, b"local-networks");
+    let local = m.fifth;
     let q = put_mask(s, site, places, work, p, local, Wanted::Local);
-    let mine = member_in(s, mud, 8, b"my-controller");
+    let mine = m.sixth;
     put_mask(s, site, places, work, q, mine, Wanted::Mine(url))
 }
 
-// The member for the remote's DNS name, by the direction.
-fn remote_name(s: &[u8], ipv4: Found, d: Direction) -> Found
-    ensures { λ r. ⌜ under (remoteName d) (seen (treeAt 8 (now (s .entry))) ipv4) ≡ seen (treeAt 7 (now (s .entry))) r ⌝ }
+// All members of `ietf-mud:mud`.
+fn put_mud(
+    s: &[u8],
+    site: &[u8],
+    places: &[u64],
+    work: &mut [u64],
+    at: usize,
+    mud: Found,
+    url: usize,
+) -> usize
+    requires { ⌜ PlacesOf (now site) (now places) × (at ≤ 2000) ⌝ }
+    ensures { λ r. ⌜ Put (now (work .entry)) at (mudMasks (now (site .entry)) (bytesAt (now (s .entry)) url) (seen (treeAt 8 (now (s .entry))) mud)) r (now (work .exit)) ⌝ }
+    ensures { λ r. ⌜ r ≤ at + 6 ⌝ }
 {
-    match d {
-        Direction::FromDevice => member_in(s, ipv4, 8, b"ietf-acldns:dst-dnsname"),
-        Direction::ToDevice => member_in(s, ipv4, 8, b"ietf-acldns:src-dnsname"),
-    }
+    let m = mud_at(s, mud);
+    let p = put_things(s, site, places, work, at, mud, m);
+    let q = put_class(s, site, places, work, p, mud, m);
+    put_nulls(s, site, places, work, q, mud, m, url)
 }
 
 fn put_host(
@@ -152,13 +165,15 @@ fn put_host(
     work: &mut [u64],
     at: usize,
     ipv4: Found,
+    m: Six,
     d: Direction,
 ) -> usize
-    requires { ⌜ PlacesOf (now site) (now places) × (at ≤ 4000) ⌝ }
+    requires { ⌜ PlacesOf (now site) (now places) × (at ≤ 4000) × Ipv4At (now s) ipv4 m ⌝ }
     ensures { λ r. ⌜ Put (now (work .entry)) at (hostMask d (now (site .entry)) (seen (treeAt 8 (now (s .entry))) ipv4)) r (now (work .exit)) ⌝ }
     ensures { λ r. ⌜ r ≤ at + 1 ⌝ }
 {
-    let host = remote_name(s, ipv4, d);
+    let sides = sides_of(s, ipv4, m, d);
+    let host = sides.name;
     put_mask(
         s,
         site,
@@ -188,8 +203,6 @@ pub fn put_names(
 {
     let mud = e.mud;
     let ipv4 = e.ipv4;
-    let p = put_things(s, site, places, work, at, mud);
-    let q = put_class(s, site, places, work, p, mud);
-    let r = put_nulls(s, site, places, work, q, mud, url);
-    put_host(s, site, places, work, r, ipv4, d)
+    let p = put_mud(s, site, places, work, at, mud, url);
+    put_host(s, site, places, work, p, ipv4, e.inIpv4, d)
 }

@@ -1,5 +1,7 @@
 // The parts of an entry, one for each dimension, as ranges.
+use entries::members::Six;
 use entries::places::Parts;
+use entries::places::sides_of;
 use flows::Direction;
 use header::strings;
 use text::bytes::byte_at;
@@ -8,29 +10,15 @@ use values::Count;
 use values::Found;
 use values::plain::integer;
 use values::strings::string_is;
-use values::walk::member;
 ghost use mathlib.Core.Path.{_≡_};
-ghost use Prim.Native.Nat.{_-_};
 ghost use Rattle.values.specs.Tree.{treeAt, seen};
-ghost use Rattle.entries.specs.Sound.{remoteNetwork};
-ghost use Rattle.entries.specs.Places.{Held};
+ghost use Rattle.entries.specs.Places.{Ipv4At, TcpAt, Held};
 ghost use Rattle.rules.specs.Parts.{numberOr, protocolIn, protocols, openerIn, openers, networkIn, networks, transport};
-ghost use Rattle.values.specs.Rules.{under};
 
 // A range of numbers, both ends in it.
 pub struct Between {
     pub low: u32,
     pub high: u32,
-}
-
-// The member of that name in what was found.
-pub fn member_in(s: &[u8], found: Found, depth: usize, name: &[u8]) -> Found
-    ensures { λ r. ⌜ under (now (name .entry)) (seen (treeAt depth (now (s .entry))) found) ≡ seen (treeAt (depth - 1) (now (s .entry))) r ⌝ }
-{
-    match found {
-        Found::Missing => Found::Missing,
-        Found::At(p) => member(s, p, depth, name),
-    }
 }
 
 fn number_or(c: Count, other: Between) -> Between
@@ -57,9 +45,9 @@ fn protocol_in(s: &[u8], found: Found) -> Between
     }
 }
 
-// The protocols of the matches that were found; `e` has where their members stand.
-pub fn protocols_of(s: &[u8], found: Found, e: Parts) -> Between
-    requires { ⌜ Held (now s) found e ⌝ }
+// The protocols of the matches that were found; `e` has where their members stand, `m` those of `ipv4`.
+pub fn protocols_of(s: &[u8], found: Found, e: Parts, m: Six) -> Between
+    requires { ⌜ Held (now s) found e × Ipv4At (now s) (e .ipv4) m ⌝ }
     ensures { λ r. ⌜ r ≡ protocols (seen (treeAt 9 (now (s .entry))) found) ⌝ }
 {
     let tcp = e.tcp;
@@ -70,8 +58,8 @@ pub fn protocols_of(s: &[u8], found: Found, e: Parts) -> Between
     if let Found::At(_) = udp {
         return Between { low: 17, high: 17 };
     }
-    let ipv4 = e.ipv4;
-    protocol_in(s, member_in(s, ipv4, 8, b"protocol"))
+    let protocol = m.first;
+    protocol_in(s, protocol)
 }
 
 fn opener_in(s: &[u8], found: Found) -> Between
@@ -89,12 +77,17 @@ fn opener_in(s: &[u8], found: Found) -> Between
     Between { low: 1, high: 1 }
 }
 
-pub fn openers_of(s: &[u8], found: Found, e: Parts) -> Between
-    requires { ⌜ Held (now s) found e ⌝ }
+// Who opens; `t` has the members of `layer`, which is `tcp` or `udp`.
+pub fn openers_of(s: &[u8], found: Found, e: Parts, layer: Found, t: Six) -> Between
+    requires { ⌜ Held (now s) found e × (transport (seen (treeAt 9 (now s)) found) ≡ seen (treeAt 8 (now s)) layer) × TcpAt (now s) layer t ⌝ }
     ensures { λ r. ⌜ r ≡ openers (seen (treeAt 9 (now (s .entry))) found) ⌝ }
 {
     let tcp = e.tcp;
-    opener_in(s, member_in(s, tcp, 8, b"ietf-mud:direction-initiated"))
+    let initiated = t.third;
+    match tcp {
+        Found::Missing => Between { low: 0, high: 1 },
+        Found::At(_) => opener_in(s, initiated),
+    }
 }
 
 fn network_in(s: &[u8], found: Found) -> Between
@@ -124,22 +117,14 @@ fn network_in(s: &[u8], found: Found) -> Between
     }
 }
 
-// The member for the remote's network, by the direction.
-fn remote_network(s: &[u8], ipv4: Found, d: Direction) -> Found
-    ensures { λ r. ⌜ under (remoteNetwork d) (seen (treeAt 8 (now (s .entry))) ipv4) ≡ seen (treeAt 7 (now (s .entry))) r ⌝ }
-{
-    match d {
-        Direction::FromDevice => member_in(s, ipv4, 8, b"destination-ipv4-network"),
-        Direction::ToDevice => member_in(s, ipv4, 8, b"source-ipv4-network"),
-    }
-}
-
-pub fn networks_of(s: &[u8], found: Found, e: Parts, d: Direction) -> Between
-    requires { ⌜ Held (now s) found e ⌝ }
+pub fn networks_of(s: &[u8], found: Found, e: Parts, m: Six, d: Direction) -> Between
+    requires { ⌜ Held (now s) found e × Ipv4At (now s) (e .ipv4) m ⌝ }
     ensures { λ r. ⌜ r ≡ networks d (seen (treeAt 9 (now (s .entry))) found) ⌝ }
 {
     let ipv4 = e.ipv4;
-    network_in(s, remote_network(s, ipv4, d))
+    let sides = sides_of(s, ipv4, m, d);
+    let network = sides.network;
+    network_in(s, network)
 }
 
 // `tcp` or `udp`, whichever is there.

@@ -1,17 +1,19 @@
 // Port objects as ranges.
-use crate::parts::member_in;
+use entries::members::Six;
+use entries::places::port_at;
 use text::bytes::byte_at;
 use values::Count;
 use values::Found;
 use values::plain::integer;
 use values::strings::string_is;
-use values::walk::member;
 ghost use mathlib.Core.Path.{_≡_};
 ghost use Rattle.text.specs.Ascii.{ascii};
 ghost use Rattle.values.specs.Decode.{bytesAt};
 ghost use Rattle.values.specs.Tree.{treeAt, lookup, seen, countOf};
 ghost use Rattle.rules.specs.Meaning.{operatorOf};
-ghost use Rattle.values.specs.Rules.{inside, under};
+ghost use Rattle.values.specs.declared.Found.the-variants.{At};
+ghost use Rattle.entries.specs.Places.{PortAt};
+ghost use Rattle.values.specs.Rules.{inside};
 ghost use Rattle.rules.specs.Ports.{portNumber, oneRange, otherThan, byOperator, portsOf, portsIn};
 
 // Two ranges, one of which must hold the port.
@@ -36,7 +38,7 @@ fn port_number(c: Count) -> u16
     }
 }
 
-fn port_at(s: &[u8], at: usize) -> u16
+fn port_number_at(s: &[u8], at: usize) -> u16
     ensures { λ r. ⌜ r ≡ portNumber (countOf (treeAt 6 (now (s .entry)) at)) ⌝ }
 {
     port_number(integer(s, at, 6))
@@ -87,11 +89,11 @@ fn by_operator(s: &[u8], at: usize, n: u16) -> Ports
     one_range(n, n)
 }
 
-// The operator of the port object at a place; without one it is `eq`.
-fn with_operator(s: &[u8], at: usize, n: u16) -> Ports
-    ensures { λ r. ⌜ r ≡ byOperator (operatorOf (lookup (ascii "operator") (treeAt 7 (now (s .entry)) at))) n ⌝ }
+// The operator that was found; without one it is `eq`.
+fn with_operator(s: &[u8], found: Found, n: u16) -> Ports
+    ensures { λ r. ⌜ r ≡ byOperator (operatorOf (seen (treeAt 6 (now (s .entry))) found)) n ⌝ }
 {
-    let Found::At(p) = member(s, at, 7, b"operator") else {
+    let Found::At(p) = found else {
         return one_range(n, n);
     };
     if byte_at(s, p) != b'"' {
@@ -100,33 +102,40 @@ fn with_operator(s: &[u8], at: usize, n: u16) -> Ports
     by_operator(s, p + 1, n)
 }
 
-fn by_port(s: &[u8], at: usize) -> Ports
+// Of the port object at a place, whose members these are.
+fn by_port(s: &[u8], at: usize, m: Six) -> Ports
+    requires { ⌜ PortAt (now s) (At at) m ⌝ }
     ensures { λ r. ⌜ r ≡ inside (lookup (ascii "port") (treeAt 7 (now (s .entry)) at)) (λ n. byOperator (operatorOf (lookup (ascii "operator") (treeAt 7 (now (s .entry)) at))) (portNumber (countOf n))) (oneRange 0 65535) ⌝ }
 {
-    match member(s, at, 7, b"port") {
+    let port = m.third;
+    let operator = m.fourth;
+    match port {
         Found::Missing => one_range(0, 65535),
-        Found::At(p) => with_operator(s, at, port_at(s, p)),
+        Found::At(p) => with_operator(s, operator, port_number_at(s, p)),
     }
 }
 
-fn ports_of(s: &[u8], at: usize) -> Ports
+fn ports_of(s: &[u8], at: usize, m: Six) -> Ports
+    requires { ⌜ PortAt (now s) (At at) m ⌝ }
     ensures { λ r. ⌜ r ≡ portsOf (treeAt 7 (now (s .entry)) at) ⌝ }
 {
-    let Found::At(low) = member(s, at, 7, b"lower-port") else {
-        return by_port(s, at);
+    let lower = m.first;
+    let upper = m.second;
+    let Found::At(low) = lower else {
+        return by_port(s, at, m);
     };
-    let Found::At(high) = member(s, at, 7, b"upper-port") else {
+    let Found::At(high) = upper else {
         return one_range(0, 65535);
     };
-    one_range(port_at(s, low), port_at(s, high))
+    one_range(port_number_at(s, low), port_number_at(s, high))
 }
 
-// The port object of that name in the `tcp` or `udp` that was found.
-pub fn ports_under(s: &[u8], transport: Found, name: &[u8]) -> Ports
-    ensures { λ r. ⌜ r ≡ portsIn (under (now (name .entry)) (seen (treeAt 8 (now (s .entry))) transport)) ⌝ }
+// The port object that was found.
+pub fn ports_in(s: &[u8], found: Found) -> Ports
+    ensures { λ r. ⌜ r ≡ portsIn (seen (treeAt 7 (now (s .entry))) found) ⌝ }
 {
-    match member_in(s, transport, 8, name) {
+    match found {
         Found::Missing => one_range(0, 65535),
-        Found::At(p) => ports_of(s, p),
+        Found::At(p) => ports_of(s, p, port_at(s, Found::At(p))),
     }
 }

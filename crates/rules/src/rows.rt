@@ -7,8 +7,10 @@ use crate::parts::openers_of;
 use crate::parts::protocols_of;
 use crate::parts::transport_of;
 use crate::ports::Ports;
-use crate::ports::ports_under;
+use crate::ports::ports_in;
+use entries::members::Six;
 use entries::places::Parts;
+use entries::places::tcp_at;
 use flows::Direction;
 use flows::direction_number;
 use text::bytes::byte_at;
@@ -20,10 +22,9 @@ ghost use mathlib.Core.Bool.{cond};
 ghost use Prim.Native.Nat.{_≤_, _+_, _*_};
 ghost use Rattle.text.specs.Written.{Put};
 ghost use Rattle.values.specs.Decode.{bytesAt};
-ghost use Rattle.values.specs.Tree.{treeAt, lookup, seen};
-ghost use Rattle.text.specs.Ascii.{ascii};
+ghost use Rattle.values.specs.Tree.{treeAt, seen};
 ghost use Rattle.naming.specs.Masks.{PlacesOf};
-ghost use Rattle.entries.specs.Places.{Held, PartsOf};
+ghost use Rattle.entries.specs.Places.{TcpAt, Held, PartsOf};
 ghost use Rattle.rules.specs.Meaning.{entryAccepts};
 ghost use Rattle.rules.specs.Rows.{spanWords, portsWords, directionSpan, portSides, rowOf, frontWords, backWords, rowWords, limitWords, ruleWords};
 
@@ -44,11 +45,14 @@ pub struct Row {
 }
 
 // "In a from-device list the destination is the remote and the source the device; in a to-device list the reverse."
-fn port_sides(s: &[u8], transport: Found, d: Direction) -> PortSides
+fn port_sides(s: &[u8], transport: Found, t: Six, d: Direction) -> PortSides
+    requires { ⌜ TcpAt (now s) transport t ⌝ }
     ensures { λ r. ⌜ r ≡ portSides d (seen (treeAt 8 (now (s .entry))) transport) ⌝ }
 {
-    let source = ports_under(s, transport, b"source-port");
-    let destination = ports_under(s, transport, b"destination-port");
+    let first = t.first;
+    let second = t.second;
+    let source = ports_in(s, first);
+    let destination = ports_in(s, second);
     match d {
         Direction::FromDevice => PortSides {
             remote: destination,
@@ -89,13 +93,16 @@ fn row_of(s: &[u8], accepts: bool, found: Found, e: Parts, d: Direction) -> Row
     requires { ⌜ Held (now s) found e ⌝ }
     ensures { λ r. ⌜ r ≡ rowOf accepts d (seen (treeAt 9 (now (s .entry))) found) ⌝ }
 {
+    let m = e.inIpv4;
+    let layer = transport_of(s, found, e);
+    let t = tcp_at(s, layer);
     Row {
         accepts: accepts,
         direction: only(d),
-        protocols: protocols_of(s, found, e),
-        openers: openers_of(s, found, e),
-        networks: networks_of(s, found, e, d),
-        ports: port_sides(s, transport_of(s, found, e), d),
+        protocols: protocols_of(s, found, e, m),
+        openers: openers_of(s, found, e, layer, t),
+        networks: networks_of(s, found, e, m, d),
+        ports: port_sides(s, layer, t, d),
     }
 }
 

@@ -7,12 +7,8 @@ ends-in-order-spec =
     tie.close
     (tie.spec
     (λ c. search entering)
-    (λ c κs. search entering)
     (λ c. search entering)
     (λ c. search entering)
-    (λ c. search entering)
-    (λ c. search entering)
-    (λ c κs. search entering)
     (λ c. search entering)
     (λ c. search entering)
     (λ c. search entering)

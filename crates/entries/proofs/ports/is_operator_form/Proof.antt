@@ -15,23 +15,13 @@ returns-3 : tie.Need-returns-3
 unfolding isOperatorForm
 returns-3 c = search entering
 
-returns-4 : tie.Need-returns-4
-unfolding isOperatorForm
-returns-4 c = search entering
-
 pub is-operator-form-spec : {M : Type 1} → statement M
 is-operator-form-spec =
     tie.close
     (tie.spec
-    (λ c. search entering)
     (λ c κs. search entering)
     returns
-    (λ c. search entering)
     (λ c κs. search entering)
     returns-2
-    (λ c. search entering)
     (λ c κs. search entering)
-    returns-3
-    (λ c. search entering)
-    (λ c κs. search entering)
-    returns-4)
+    returns-3)

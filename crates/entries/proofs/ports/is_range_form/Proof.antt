@@ -21,9 +21,7 @@ is-range-form-spec =
     (tie.spec
     (λ c κs. search entering)
     returns
-    (λ c. search entering)
     (λ c κs. search entering)
     returns-2
-    (λ c. search entering)
     (λ c κs. search entering)
     returns-3)

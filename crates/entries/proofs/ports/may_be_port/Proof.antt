@@ -6,9 +6,9 @@ pub may-be-port-spec : {M : Type 1} → statement M
 may-be-port-spec =
     tie.close
     (tie.spec
+    (λ c. search entering)
+    (λ c. search entering)
     (λ c κs. search entering)
-    (λ c. search entering)
-    (λ c. search entering)
     (λ c κs. search entering)
     (λ c. search entering)
     (λ c. search entering))

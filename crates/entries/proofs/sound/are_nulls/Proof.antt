@@ -19,12 +19,9 @@ pub are-nulls-spec : {M : Type 1} → statement M
 are-nulls-spec =
     tie.close
     (tie.spec
-    (λ c. search entering)
     (λ c κs. search entering)
     returns
-    (λ c. search entering)
     (λ c κs. search entering)
     returns-2
-    (λ c. search entering)
     (λ c κs. search entering)
     returns-3)

@@ -1,23 +1,19 @@
 use Rattle.entries.proofs.Laws.{entering}
-use Rattle.entries.specs.Sound.{sidesNamed}
+use Rattle.entries.specs.Sound.{sidesNamed, sidesOk}
 use Rattle.entries.proofs.sound.are_sides.Statement.{statement}
 use Rattle.entries.proofs.sound.are_sides.Tie as tie
 
 returns : tie.Need-returns
-unfolding sidesNamed
+unfolding sidesNamed sidesOk
 returns c = search entering
 
 returns-2 : tie.Need-returns-2
-unfolding sidesNamed
+unfolding sidesNamed sidesOk
 returns-2 c = search entering
 
 returns-3 : tie.Need-returns-3
-unfolding sidesNamed
+unfolding sidesNamed sidesOk
 returns-3 c = search entering
-
-returns-4 : tie.Need-returns-4
-unfolding sidesNamed
-returns-4 c = search entering
 
 pub are-sides-spec : {M : Type 1} → statement M
 are-sides-spec =
@@ -28,6 +24,4 @@ are-sides-spec =
     (λ c κs. search entering)
     returns-2
     (λ c κs. search entering)
-    returns-3
-    (λ c κs. search entering)
-    returns-4)
+    returns-3)

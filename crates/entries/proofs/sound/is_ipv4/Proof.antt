@@ -21,8 +21,8 @@ is-ipv4-spec =
     (tie.spec
     (λ c κs. search entering)
     returns
-    (λ c. search entering)
     (λ c κs. search entering)
     returns-2
+    (λ c κs. search entering)
     (λ c κs. search entering)
     returns-3)

@@ -22,6 +22,7 @@ is-mud-spec =
     (λ c κs. search entering)
     returns
     (λ c κs. search entering)
+    (λ c κs. search entering)
     returns-2
     (λ c κs. search entering)
     returns-3)

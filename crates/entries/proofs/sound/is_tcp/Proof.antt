@@ -16,7 +16,7 @@ is-tcp-spec =
     tie.close
     (tie.spec
     (λ c κs. search entering)
+    (λ c κs. search entering)
     returns
-    (λ c. search entering)
     (λ c κs. search entering)
     returns-2)

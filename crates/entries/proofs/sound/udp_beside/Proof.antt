@@ -16,6 +16,7 @@ udp-beside-spec =
     tie.close
     (tie.spec
     (λ c κs. search entering)
+    (λ c κs. search entering)
     returns
     (λ c κs. search entering)
     returns-2)

@@ -7,9 +7,6 @@ must-be-spec =
     tie.close
     (tie.spec
     (λ c κs. search asking)
-    (λ c. search asking)
-    (λ c. search asking)
     (λ c κs. search asking)
     (λ c κs. search asking)
-    (λ c. search asking)
     (λ c. search asking))

@@ -6,8 +6,6 @@ pub put-class-spec : {M : Type 1} → statement M
 put-class-spec =
     tie.close
     (tie.spec
-    (λ c. search rowing)
-    (λ c κs. search rowing)
     (λ c κs. search rowing)
     (λ c κs. search rowing)
     (λ c. search rowing)

@@ -8,7 +8,5 @@ put-names-spec =
     (tie.spec
     (λ c κs. search rowing)
     (λ c κs. search rowing)
-    (λ c κs. search rowing)
-    (λ c κs. search rowing)
     (λ c. search rowing)
     (λ c. (search rowing, search rowing)))

@@ -6,13 +6,7 @@ pub put-nulls-spec : {M : Type 1} → statement M
 put-nulls-spec =
     tie.close
     (tie.spec
-    (λ c. search rowing)
     (λ c κs. search rowing)
-    (λ c κs. search rowing)
-    (λ c. search rowing)
-    (λ c κs. search rowing)
-    (λ c κs. search rowing)
-    (λ c. search rowing)
     (λ c κs. search rowing)
     (λ c κs. search rowing)
     (λ c. search rowing)

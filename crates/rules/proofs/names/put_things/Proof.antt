@@ -6,11 +6,7 @@ pub put-things-spec : {M : Type 1} → statement M
 put-things-spec =
     tie.close
     (tie.spec
-    (λ c. search rowing)
     (λ c κs. search rowing)
-    (λ c κs. search rowing)
-    (λ c κs. search rowing)
-    (λ c. search rowing)
     (λ c κs. search rowing)
     (λ c κs. search rowing)
     (λ c κs. search rowing)

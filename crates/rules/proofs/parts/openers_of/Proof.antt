@@ -7,6 +7,7 @@ openers-of-spec =
     tie.close
     (tie.spec
     (λ c. search parting)
+    (λ c. search parting)
     (λ c κs. search parting)
-    (λ c κs. search parting)
+    (λ c. search parting)
     (λ c. search parting))

@@ -12,7 +12,5 @@ protocols-of-spec =
     (λ c. search parting)
     (λ c. search parting)
     (λ c. search parting)
-    (λ c. search parting)
-    (λ c κs. search parting)
     (λ c κs. search parting)
     (λ c. search parting))

@@ -10,8 +10,6 @@ by-port-spec =
     (λ c κs. search porting)
     (λ c. search porting)
     (λ c κs. search porting)
-    (λ c. search porting)
-    (λ c κs. search porting)
     (λ c κs. search porting)
     (λ c. search porting)
     (λ c. search porting))

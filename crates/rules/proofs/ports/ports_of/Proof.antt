@@ -20,13 +20,9 @@ ports-of-spec =
     tie.close
     (tie.spec
     (λ c. search porting)
-    (λ c κs. search porting)
-    (λ c. search porting)
     (λ c. search porting)
     (λ c κs. search porting)
     returns
-    (λ c. search porting)
-    (λ c κs. search porting)
     (λ c. search porting)
     (λ c. search porting)
     (λ c κs. search porting)

@@ -7,8 +7,6 @@ with-operator-spec =
     tie.close
     (tie.spec
     (λ c. search porting)
-    (λ c κs. search porting)
-    (λ c. search porting)
     (λ c. search porting)
     (λ c κs. search porting)
     (λ c. search porting)

@@ -6,9 +6,7 @@ pub port-sides-spec : {M : Type 1} → statement M
 port-sides-spec =
     tie.close
     (tie.spec
-    (λ c. search rowing)
     (λ c κs. search rowing)
-    (λ c. search rowing)
     (λ c κs. search rowing)
     (λ c. search rowing)
     (λ c. search rowing)

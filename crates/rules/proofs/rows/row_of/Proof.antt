@@ -12,4 +12,5 @@ row-of-spec =
     (λ c κs. search rowing)
     (λ c κs. search rowing)
     (λ c κs. search rowing)
+    (λ c κs. search rowing)
     (λ c. search rowing))
