@@ -15,9 +15,10 @@ use Rattle.flows.proofs.Meaning.{length-put}
 use Rattle.builder.specs.declared.Built.{Built}
 use Rattle.builder.specs.declared.Built.the-variants.{Lines, Over}
 use Rattle.builder.specs.declared.live.Judged.{Judged}
+use Rattle.builder.specs.declared.live.Run.{Run}
 use Rattle.builder.specs.Encoding.{lowOf, highOf, columnOf, wordOf, tableWords}
 use Rattle.builder.specs.Cells.{topOf, tableLeft, firstOr, cellsAt, Chain, Ready}
-use Rattle.builder.specs.Post.{BuiltTo, JudgedRead, RunPut, stampN}
+use Rattle.builder.specs.Post.{BuiltTo, CellRead, okAt, JudgedRead, RunPut, stampN}
 use Rattle.builder.proofs.Chosen.{leaf-left}
 use Rattle.builder.proofs.Laid.{table-length, table-append, stamp-table}
 use Rattle.builder.proofs.Cutting.{cells-between}
@@ -48,6 +49,15 @@ port-top = refl
 port-place : cellsAt 5 ≡ 6214
 unfolding cellsAt
 port-place = refl
+
+-- the verdict of the live sets that are read of a cell
+pub sets-verdict : (a b ya yb x : ℕ) (w : List ℕ) (cell : Run) (ok : Bool) → CellRead a b x w cell → ok ≡ okAt a b ya yb w x → ok ≡ firstOr 64 ya (cell .a) (firstOr 64 yb (cell .b) false)
+sets-verdict a b ya yb x w cell ok r e = e ∙ ap₂ (λ (p q : ℕ). firstOr 64 ya p (firstOr 64 yb q false)) (sym (r .first)) (sym (r .second))
+
+pub cell-verdict : (ya yb : ℕ) {p q p' q' : ℕ} {r : Bool} → r ≡ firstOr 64 ya p (firstOr 64 yb q false) → p ≡ p' → q ≡ q' → r ≡ firstOr 64 ya p' (firstOr 64 yb q' false)
+cell-verdict ya yb e f g = e ∙ ap₂ (λ (p q : ℕ). firstOr 64 ya p (firstOr 64 yb q false)) f g
+
+pub ruleset judging = (needs, cell-verdict)
 
 -- ---- a run put down
 module _ (n at lo hi ya yb ra rb : ℕ) (ok : Bool) (w w' : List ℕ) (r : Built) (room : 3 * at + 3 ≤ length w) (ready : Ready n ya yb (take 1555 w) w) (verdict : ok ≡ firstOr 64 ya ra (firstOr 64 yb rb false))
@@ -86,7 +96,7 @@ unfolding tableWords putBefore
 run-dropped at lo hi ok w y = rw (not-true ok y) (record { count = omega arith; held = sym (append-nil (take (3 * at) w)) })
 
 -- ---- the loop over the cells: what is laid down so far
-pub record Scan (n at a b ya yb : ℕ) (we work : List ℕ) (x lo hi : ℕ) (ok : Bool) (ra rb end : ℕ) : Type 0 where
+pub record Scan (n at a b ya yb : ℕ) (we work : List ℕ) (x lo hi : ℕ) (ok : Bool) (end : ℕ) : Type 0 where
   pub ready : Ready n ya yb (take 1555 we) we
   pub done : Table
   pub pending : Pending (secOf 1 n (take 1555 we) a b) 65536 (tableLeft 1 n (take 1555 we) a b) done lo hi (oneLine ok)
@@ -101,14 +111,7 @@ pub record Scan (n at a b ya yb : ℕ) (we work : List ℕ) (x lo hi : ℕ) (ok 
   pub high : hi ≤ topOf 5
   pub long : length work ≡ length we
   pub place : x ≤ 7066
-  pub verdict : ok ≡ firstOr 64 ya ra (firstOr 64 yb rb false)
-
--- whether the rules of two masks that hold a cell accept it
-abbrev okAt : ℕ → ℕ → ℕ → ℕ → List ℕ → ℕ → Bool
-okAt a b ya yb w x = firstOr 64 ya (bitAnd a (getD w (x + 1) 0)) (firstOr 64 yb (bitAnd b (getD w (x + 2) 0)) false)
-
-judged-ok : {a b ya yb x : ℕ} {w : List ℕ} {r : Judged} → JudgedRead a b ya yb x w r → r .ok ≡ okAt a b ya yb w x
-judged-ok {a} {b} {ya} {yb} {x} {w} {r} j = j .verdict ∙ ap₂ (λ (p q : ℕ). firstOr 64 ya p (firstOr 64 yb q false)) (j .first) (j .second)
+  pub verdict : ok ≡ okAt a b ya yb we x
 
 -- the section of each value of a cell
 cell-sec : (n a b ya yb : ℕ) (w : List ℕ) (v x y : ℕ) → Ready n ya yb (take 1555 w) w → Link n 5 (take 1555 w) w (cellsAt 6) v x → v ≤ y → y ≤ highOf (getD w x 0) → secOf 1 n (take 1555 w) a b y ≡ oneLine (okAt a b ya yb w x)
@@ -122,7 +125,7 @@ pub scan-first : {at x long : ℕ} → 2357 ≤ at → 3 * (at + 512) + 3 ≤ lo
 scan-first base fits e = omega (arith, e, port-place)
 
 pub scan-start : {n at a b ya yb x : ℕ} {run : Judged} {w : List ℕ} → 2357 ≤ at → 3 * (at + 512) + 3 ≤ length w → Ready n ya yb (take 1555 w) w → x ≡ cellsAt 5 → JudgedRead a b ya yb x w run
-    → Scan n at a b ya yb w w x (run .low) (run .high) (run .ok) (run .a) (run .b) at
+    → Scan n at a b ya yb w w x (run .low) (run .high) (run .ok) at
 unfolding tableWords
 scan-start {n} {at} {a} {b} {ya} {yb} {x} {run} {w} base fits r ex read =
     let lo = run .low in
@@ -130,7 +133,7 @@ scan-start {n} {at} {a} {b} {ya} {yb} {x} {run} {w} base fits r ex read =
     let ok = run .ok in
     let el = read .low in
     let eh = read .high in
-    let eo : ok ≡ okAt a b ya yb w x = judged-ok read in
+    let eo = read .verdict in
     let R = take 1555 w in
     let c = r .cells 5 (omega arith) in
     let l : Link n 5 R w (cellsAt 6) 0 x = subst (λ (p : ℕ). Link n 5 R w (cellsAt 6) 0 p) (sym ex) (link-of (c .count) n 5 R w (cellsAt 6) 0 (cellsAt 5) (c .chain)) in
@@ -157,7 +160,7 @@ scan-start {n} {at} {a} {b} {ya} {yb} {x} {run} {w} base fits r ex read =
       verdict = read .verdict;
     }
 
-module _ {n at a b ya yb : ℕ} {we work : List ℕ} {x lo hi : ℕ} {ok : Bool} {ra rb end : ℕ} (t : Scan n at a b ya yb we work x lo hi ok ra rb end) where
+module _ {n at a b ya yb : ℕ} {we work : List ℕ} {x lo hi : ℕ} {ok : Bool} {end : ℕ} (t : Scan n at a b ya yb we work x lo hi ok end) where
   pub scan-room : 3 * end + 3 ≤ length work
   scan-room = omega (arith, t .few, t .place, t .fits, t .long)
 
@@ -165,6 +168,12 @@ module _ {n at a b ya yb : ℕ} {we work : List ℕ} {x lo hi : ℕ} {ok : Bool}
   scan-front =
       let l : length (take (3 * at) we) ≡ 3 * at = length-take-le (3 * at) we (omega (arith, t .fits)) in
       sym (take-take (3 * at) (3 * end) work (omega (arith, t .at-end))) ∙ ap (λ (z : List ℕ). take (3 * at) z) (t .held) ∙ take-at (take (3 * at) we) (tableWords 5 (t .done)) (3 * at) l
+
+  same : (q : ℕ) → q < 7069 → getD work q 0 ≡ getD we q 0
+  same q h = same-at at we work q (omega (arith, t .base)) scan-front
+
+  pub scan-verdict : ok ≡ okAt a b ya yb work x
+  scan-verdict = t .verdict ∙ ap₂ (λ (p q : ℕ). firstOr 64 ya (bitAnd a p) (firstOr 64 yb (bitAnd b q) false)) (sym (same (x + 1) (omega (arith, t .place)))) (sym (same (x + 2) (omega (arith, t .place))))
 
   pub scan-ready : Ready n ya yb (take 1555 work) work
   scan-ready = ready-now at we work (t .base) scan-front (t .ready)
@@ -205,9 +214,6 @@ module _ {n at a b ya yb : ℕ} {we work : List ℕ} {x lo hi : ℕ} {ok : Bool}
     pub scan-fits : x + 3 + 3 ≤ length work
     scan-fits = omega (arith, scan-inside, t .long, t .fits, t .base)
 
-    same : (q : ℕ) → q < 7069 → getD work q 0 ≡ getD we q 0
-    same q h = same-at at we work q (omega (arith, t .base)) scan-front
-
     module _ {cell : Judged} (read : JudgedRead a b ya yb (x + 3) work cell) where
       up : ℕ
       up = cell .high
@@ -226,14 +232,16 @@ module _ {n at a b ya yb : ℕ} {we work : List ℕ} {x lo hi : ℕ} {ok : Bool}
       chained : up < 65535 → Chain (next .count) n 5 (take 1555 we) we (cellsAt 6) (up + 1) (x + 3 + 3)
       chained h = subst (λ (y : ℕ). Chain (next .count) n 5 (take 1555 we) we (cellsAt 6) (y + 1) (x + 3 + 3)) (sym up-is) (next .rest (omega (arith, up-is, port-top)))
 
+      next-verdict : cell .ok ≡ okAt a b ya yb we (x + 3)
+      next-verdict = read .verdict ∙ ap₂ (λ (p q : ℕ). firstOr 64 ya (bitAnd a p) (firstOr 64 yb (bitAnd b q) false)) (same (x + 3 + 1) (omega (arith, scan-inside))) (same (x + 3 + 2) (omega (arith, scan-inside)))
+
       next-sec : (y : ℕ) → hi < y → y ≤ up → secOf 1 n (take 1555 we) a b y ≡ oneLine (cell .ok)
       next-sec y h k =
           cell-sec n a b ya yb we (hi + 1) (x + 3) y (t .ready) next (omega arith) (omega (arith, up-is))
-          ∙ ap₂ (λ (p q : ℕ). oneLine (firstOr 64 ya (bitAnd a p) (firstOr 64 yb (bitAnd b q) false))) (sym (same (x + 3 + 1) (omega (arith, scan-inside)))) (sym (same (x + 3 + 2) (omega (arith, scan-inside))))
-          ∙ ap oneLine (sym (judged-ok read))
+          ∙ ap oneLine (sym next-verdict)
 
       -- the verdict is the same
-      pub scan-on : Bool·beq (cell .ok) ok ≡ true → Scan n at a b ya yb we work (x + 3) lo (cell .high) ok ra rb end
+      pub scan-on : Bool·beq (cell .ok) ok ≡ true → Scan n at a b ya yb we work (x + 3) lo (cell .high) ok end
       unfolding up
       scan-on e = record {
         ready = t .ready;
@@ -250,11 +258,11 @@ module _ {n at a b ya yb : ℕ} {we work : List ℕ} {x lo hi : ℕ} {ok : Bool}
         high = omega (arith, up-more, port-top);
         long = t .long;
         place = omega (arith, scan-inside);
-        verdict = t .verdict;
+        verdict = sym (same-verdict (cell .ok) ok e) ∙ next-verdict;
       }
 
       -- the other verdict
-      pub scan-new : {w' : List ℕ} {end' : ℕ} → RunPut end lo hi ok work w' end' → length w' ≡ length work → Bool·beq (cell .ok) ok ≡ false → Scan n at a b ya yb we w' (x + 3) (cell .low) (cell .high) (cell .ok) (cell .a) (cell .b) end'
+      pub scan-new : {w' : List ℕ} {end' : ℕ} → RunPut end lo hi ok work w' end' → length w' ≡ length work → Bool·beq (cell .ok) ok ≡ false → Scan n at a b ya yb we w' (x + 3) (cell .low) (cell .high) (cell .ok) end'
       unfolding up
       scan-new {w'} {end'} p g e =
           let q : suc hi ≡ cell .low = omega (arith, read .low, ap lowOf (same (x + 3) (omega (arith, scan-inside))), next .cell .low) in
@@ -276,7 +284,7 @@ module _ {n at a b ya yb : ℕ} {we work : List ℕ} {x lo hi : ℕ} {ok : Bool}
             high = omega (arith, up-more, port-top);
             long = g ∙ t .long;
             place = omega (arith, scan-inside);
-            verdict = read .verdict;
+            verdict = next-verdict;
           }
 
 pub ruleset scanning = (needs, scan-first, scan-start, scan-room, scan-ready, put-few, scan-done, scan-fits, scan-less)

@@ -47,13 +47,15 @@ pub record CellRead (a b x : ℕ) (w : List ℕ) (r : Run) : Type 0 where
   pub third : r .c ≡ bitAnd a (getD w (x + 1) 0)
   pub fourth : r .d ≡ bitAnd b (getD w (x + 2) 0)
 
--- The same of the last dimension, with the verdict of the first live rule
+-- The verdict of the first rule that two masks and the cell at place x have
+abbrev pub okAt : ℕ → ℕ → ℕ → ℕ → List ℕ → ℕ → Bool
+okAt a b ya yb w x = firstOr 64 ya (bitAnd a (getD w (x + 1) 0)) (firstOr 64 yb (bitAnd b (getD w (x + 2) 0)) false)
+
+-- What is read of a cell of the last dimension
 pub record JudgedRead (a b ya yb x : ℕ) (w : List ℕ) (r : Judged) : Type 0 where
   pub low : r .low ≡ lowOf (getD w x 0)
   pub high : r .high ≡ highOf (getD w x 0)
-  pub first : r .a ≡ bitAnd a (getD w (x + 1) 0)
-  pub second : r .b ≡ bitAnd b (getD w (x + 2) 0)
-  pub verdict : r .ok ≡ firstOr 64 ya (r .a) (firstOr 64 yb (r .b) false)
+  pub verdict : r .ok ≡ okAt a b ya yb w x
 
 -- The live sets of a run have the table s; f gives the table of two live sets
 abbrev pub Have : (ℕ → ℕ → Table) → Table → Run → Type 0

@@ -110,12 +110,10 @@ pub fn longer(run: Run, cell: Run) -> Run
     }
 }
 
-// A run of the last dimension, the live sets of its first cell, and whether the first rule of these accepts.
+// A run of the last dimension, and whether the first of the live rules that hold it accepts.
 pub struct Judged {
     pub low: u64,
     pub high: u64,
-    pub a: u64,
-    pub b: u64,
     pub ok: bool,
 }
 
@@ -128,8 +126,6 @@ pub fn judged_at(work: &[u64], x: usize, a: u64, b: u64, ya: u64, yb: u64) -> Ju
     Judged {
         low: c.low,
         high: c.high,
-        a: c.a,
-        b: c.b,
         ok: accepts(ya, yb, c.a, c.b),
     }
 }

@@ -1,11 +1,10 @@
 // The lines of a cross section, one dimension fewer with each call, from six to none.
 ghost use mathlib.Core.Path.{_≡_};
-ghost use mathlib.Core.Bool.{false};
 ghost use Prim.Native.Nat.{_+_, _-_, _*_, _≤_};
 ghost use lib.ListN.{length};
 ghost use Rattle.builder.specs.Encoding.{ruled};
-ghost use Rattle.builder.specs.Cells.{topOf, firstOr, tableLeft, Ready};
-ghost use Rattle.builder.specs.Post.{BuiltTo, RunPut};
+ghost use Rattle.builder.specs.Cells.{topOf, tableLeft, Ready};
+ghost use Rattle.builder.specs.Post.{BuiltTo, okAt, RunPut};
 use crate::Built;
 use crate::cells::place;
 use crate::cells::top;
@@ -33,15 +32,26 @@ fn leaf(work: &mut [u64], n: usize, at: usize, a: u64, b: u64, ya: u64, yb: u64)
     }
 }
 
-// The lines of a run of the last dimension; where the next ones go.
-fn put_run(work: &mut [u64], n: usize, at: usize, run: Judged, ya: u64, yb: u64) -> usize
-    requires { ⌜ (2357 ≤ at) × (3 * at + 3 ≤ length (now work)) × (run .low ≤ topOf 5) × (run .high ≤ topOf 5) × (run .ok ≡ firstOr 64 ya (run .a) (firstOr 64 yb (run .b) false)) × Ready n ya yb (ruled (now work)) (now work) ⌝ }
+// The lines of a run of the last dimension, one of whose cells stands at place x; where the next ones go.
+fn put_run(
+    work: &mut [u64],
+    n: usize,
+    at: usize,
+    x: usize,
+    a: u64,
+    b: u64,
+    run: Judged,
+    ya: u64,
+    yb: u64,
+) -> usize
+    requires { ⌜ (2357 ≤ at) × (3 * at + 3 ≤ length (now work)) × (x ≤ 7066) × (run .low ≤ topOf 5) × (run .high ≤ topOf 5) × (run .ok ≡ okAt a b ya yb (now work) x) × Ready n ya yb (ruled (now work)) (now work) ⌝ }
     ensures { λ r. ⌜ RunPut at (run .low) (run .high) (run .ok) (now (work .entry)) (now (work .exit)) r ⌝ }
 {
     if !run.ok {
         return at;
     }
-    let Built::Lines(more) = section(work, n, at, 0, run.a, run.b, ya, yb) else {
+    let c = cell_at(work, x, a, b);
+    let Built::Lines(more) = section(work, n, at, 0, c.a, c.b, ya, yb) else {
         return at;
     };
     let next = at + more;
@@ -59,16 +69,17 @@ fn last_section(work: &mut [u64], n: usize, at: usize, a: u64, b: u64, ya: u64, 
     let mut run = judged_at(work, x, a, b, ya, yb);
     let mut end = at;
     while run.high < 65535 {
+        let before = x;
         x += 3;
         let next = judged_at(work, x, a, b, ya, yb);
         if next.ok == run.ok {
             run.high = next.high;
         } else {
-            end = put_run(work, n, end, run, ya, yb);
+            end = put_run(work, n, end, before, a, b, run, ya, yb);
             run = next;
         }
     }
-    end = put_run(work, n, end, run, ya, yb);
+    end = put_run(work, n, end, x, a, b, run, ya, yb);
     Built::Lines(end - at)
 }
 

@@ -1,22 +1,19 @@
 // Six members of an object, found in one walk.
 use json::Next;
-use json::Read;
 use json::reader::key;
-use json::reader::value;
-use json::space::follow;
-use json::space::skip;
 use text::bytes::byte_at;
 use values::Found;
 use values::clean::both;
 use values::strings::string_is;
 use values::walk::first_field;
 use values::walk::inner;
+use values::walk::member_after;
 use values::walk::name_place;
+use values::walk::value_place;
 ghost use mathlib.Core.Path.{_≡_};
 ghost use Rattle.text.specs.Words.{sameBytes};
-ghost use Rattle.json.specs.Reading.{keyAt, memberAt, valueAt};
 ghost use Rattle.values.specs.Decode.{bytesAt};
-ghost use Rattle.values.specs.Tree.{placeAt, membersFrom};
+ghost use Rattle.values.specs.Tree.{membersFrom};
 ghost use Rattle.entries.specs.Members.{Begins, anyOf, noted, notedAll, noSix, TestsOf, SixFrom, SixOf};
 
 // Where the values of six members stand, and whether all members have one of their names.
@@ -158,31 +155,6 @@ fn note_all(m: Six, t: Tests, p: usize) -> Six
     }
 }
 
-// Where the value of the member that begins at a place stands, after its key.
-fn value_place(s: &[u8], j: usize, key: Read) -> usize
-    requires { ⌜ key ≡ keyAt (now s) j ⌝ }
-    ensures { λ r. ⌜ r ≡ placeAt (now (s .entry)) j ⌝ }
-{
-    match key {
-        Read::Bad(p) => skip(s, p),
-        Read::End(v) => skip(s, v),
-    }
-}
-
-// The member after the one that begins at a place, whose key is read.
-fn next_after(s: &[u8], j: usize, key: Read, depth: usize) -> Next
-    requires { ⌜ key ≡ keyAt (now s) j ⌝ }
-    ensures { λ r. ⌜ r ≡ memberAt (valueAt depth (now (s .entry))) (now (s .entry)) j ⌝ }
-{
-    match key {
-        Read::Bad(p) => Next::Wrong(p),
-        Read::End(v) => match value(s, skip(s, v), depth) {
-            Read::Bad(p) => Next::Wrong(p),
-            Read::End(e) => follow(s, e, b'}'),
-        },
-    }
-}
-
 // Among the members from the one that begins at a place on.
 fn six_from(
     s: &[u8],
@@ -203,7 +175,7 @@ fn six_from(
         let k = key(s, j);
         let t = names_of(s, j, a, b, c, d, e, f);
         m = note_all(m, t, value_place(s, j, k));
-        match next_after(s, j, k, depth) {
+        match member_after(s, j, k, depth) {
             Next::Done(_) => {
                 return m;
             }

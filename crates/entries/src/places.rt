@@ -42,7 +42,7 @@ pub fn mud_at(s: &[u8], found: Found) -> Six
     )
 }
 
-pub fn ipv4_at(s: &[u8], found: Found) -> Six
+fn ipv4_at(s: &[u8], found: Found) -> Six
     ensures { λ r. ⌜ Ipv4At (now (s .entry)) found r ⌝ }
 {
     six_of(

@@ -13,21 +13,29 @@ use text::bytes::byte_at;
 ghost use mathlib.Core.Path.{_≡_};
 ghost use Prim.Native.Nat.{_-_};
 ghost use Rattle.text.specs.Words.{sameBytes};
-ghost use Rattle.json.specs.Reading.{memberAt, elementAt, valueAt};
+ghost use Rattle.json.specs.Reading.{keyAt, memberAt, elementAt, valueAt};
 ghost use Rattle.values.specs.Decode.{bytesAt};
 ghost use Rattle.values.specs.Tree.{nameAt, placeAt, treeAt, items, fields, itemsFrom, fieldsFrom, membersFrom, find, lookup, seen};
 
-// The next member of an object, after the one that begins at a place.
-pub fn next_member(s: &[u8], at: usize, depth: usize) -> Next
+// The member after the one that begins at a place, whose key is read.
+pub fn member_after(s: &[u8], at: usize, key: Read, depth: usize) -> Next
+    requires { ⌜ key ≡ keyAt (now s) at ⌝ }
     ensures { λ r. ⌜ r ≡ memberAt (valueAt depth (now (s .entry))) (now (s .entry)) at ⌝ }
 {
-    match key(s, at) {
+    match key {
         Read::Bad(p) => Next::Wrong(p),
         Read::End(v) => match value(s, skip(s, v), depth) {
             Read::Bad(p) => Next::Wrong(p),
             Read::End(e) => follow(s, e, b'}'),
         },
     }
+}
+
+// The next member of an object, after the one that begins at a place.
+pub fn next_member(s: &[u8], at: usize, depth: usize) -> Next
+    ensures { λ r. ⌜ r ≡ memberAt (valueAt depth (now (s .entry))) (now (s .entry)) at ⌝ }
+{
+    member_after(s, at, key(s, at), depth)
 }
 
 // The next element of an array, after the one that begins at a place.
@@ -40,14 +48,22 @@ pub fn next_element(s: &[u8], at: usize, depth: usize) -> Next
     }
 }
 
+// Where the value of the member that begins at a place stands, after its key.
+pub fn value_place(s: &[u8], at: usize, key: Read) -> usize
+    requires { ⌜ key ≡ keyAt (now s) at ⌝ }
+    ensures { λ r. ⌜ r ≡ placeAt (now (s .entry)) at ⌝ }
+{
+    match key {
+        Read::Bad(p) => skip(s, p),
+        Read::End(v) => skip(s, v),
+    }
+}
+
 // Where the value of a member stands.
 pub fn member_place(s: &[u8], at: usize) -> usize
     ensures { λ r. ⌜ r ≡ placeAt (now (s .entry)) at ⌝ }
 {
-    match key(s, at) {
-        Read::Bad(p) => skip(s, p),
-        Read::End(v) => skip(s, v),
-    }
+    value_place(s, at, key(s, at))
 }
 
 // Where the first character of a member's name stands.

@@ -9,7 +9,7 @@ use borrow.Fn.Kinds.{In}
 use borrow.Fn.PlainCycle.{Measures, is, falls, and}
 use Rattle.builder.specs.Cells.{topOf}
 use Rattle.builder.proofs.Levels.{Turn, none-is, leaf-is, last-is, first-inside, first-over, first-few, first-front, turn-start, next-fits, next-less, less-on, turn-pass, turn-ready, turn-over, turn-over-sec, turn-few, turn-inside, turn-keep, turn-over-new, turn-new, turn-done}
-use Rattle.builder.proofs.Ports.{Scan, scanning, scan-room, scan-ready, scan-less, scan-on, scan-new, scan-done, put-few, not-over, one-more, run-put, run-dropped}
+use Rattle.builder.proofs.Ports.{Scan, scanning, sets-verdict, scan-room, scan-verdict, scan-ready, scan-less, scan-on, scan-new, scan-done, put-few, not-over, one-more, run-put, run-dropped}
 use Rattle.builder.proofs.sections.last_section.Reads as last-section
 use Rattle.builder.proofs.sections.last_section.Kinds as last-section-kinds
 use Rattle.builder.proofs.sections.+last_section+put_run+section.Lts-last_section as last-section-lts
@@ -62,7 +62,7 @@ section-below t = and 1 section-kinds.ps (falls 1 section-kinds.ps _<_ μ-sectio
 -- ---- a run put down
 
 abbrev Ps : ℕ → put-run-lts.Claims
-Ps t = (section-below t, section.Post, close-reads.Asked, close-reads.Learnt)
+Ps t = (cell-at-reads.Asked, cell-at-reads.Learnt, section-below t, section.Post, close-reads.Asked, close-reads.Learnt)
 
 put-run-returns : (t : ℕ) → put-run-lts.Need-returns (Ps t) (put-run-at t) put-run.Post
 put-run-returns t c =
@@ -71,41 +71,50 @@ put-run-returns t c =
 
 put-run-section-requires : (t : ℕ) → put-run-lts.Need-section-requires (Ps t) (put-run-at t) put-run.Post
 put-run-section-requires t c κs =
+    let s = c .before .before .before .before .before .before in
+    (omega (arith, s .pre .0), (omega arith, s .pre .1 .0, omega (arith, s .pre .1 .1), s .pre .1 .6))
+
+put-run-cell-at-requires : (t : ℕ) → put-run-lts.Need-cell-at-requires (Ps t) (put-run-at t) put-run.Post
+put-run-cell-at-requires t c κs =
     let s = c .before .before .before .before in
-    (omega (arith, s .pre .0), (omega arith, s .pre .1 .0, omega (arith, s .pre .1 .1), s .pre .1 .5))
+    omega (arith, s .pre .1 .0, s .pre .1 .1, s .pre .1 .2)
 
 put-run-returns-2 : (t : ℕ) → put-run-lts.Need-returns-2 (Ps t) (put-run-at t) put-run.Post
 put-run-returns-2 t c =
-    let s = c .before .before .before .before .before .before .before .before .before in
+    let s = c .before .before .before .before .before .before .before .before .before .before .before in
     let a = s .args in
     let sec = c .before .before .before .before .section in
-    absurd (not-over (a .n) (a .at) (a .run .low) (a .run .high) (a .ya) (a .yb) (a .run .a) (a .run .b) (a .run .ok) (a .work .now) (sec .last .0) (sec .result) (s .pre .1 .1) (s .pre .1 .5) (s .pre .1 .4) (c .before .before .before .before .before .before .if1 .left) (sec .ensures) (c .enum-told .given .1))
+    let cell = c .before .before .before .before .before .before .cell-at in
+    absurd (not-over (a .n) (a .at) (a .run .low) (a .run .high) (a .ya) (a .yb) (cell .result .a) (cell .result .b) (a .run .ok) (a .work .now) (sec .last .0) (sec .result) (s .pre .1 .1) (s .pre .1 .6) (sets-verdict _ _ _ _ _ _ _ _ (cell .ensures) (s .pre .1 .5)) (c .before .before .before .before .before .before .before .before .if1 .left) (sec .ensures) (c .enum-told .given .1))
 
 put-run-add-next : (t : ℕ) → put-run-lts.Need-add-next (Ps t) (put-run-at t) put-run.Post
 put-run-add-next t c =
-    let s = c .before .before .before .before .before .before .before .before .before .before in
+    let s = c .before .before .before .before .before .before .before .before .before .before .before .before in
     let a = s .args in
     let sec = c .before .before .before .before .before .section in
-    omega (arith, one-more (a .n) (a .at) (a .run .low) (a .run .high) (a .ya) (a .yb) (a .run .a) (a .run .b) (a .run .ok) (a .work .now) (sec .last .0) (sec .result) (s .pre .1 .1) (s .pre .1 .5) (s .pre .1 .4) (c .before .before .before .before .before .before .before .if1 .left) (sec .ensures) _ (c .before .more .given .1), s .pre .1 .1)
+    let cell = c .before .before .before .before .before .before .before .cell-at in
+    omega (arith, one-more (a .n) (a .at) (a .run .low) (a .run .high) (a .ya) (a .yb) (cell .result .a) (cell .result .b) (a .run .ok) (a .work .now) (sec .last .0) (sec .result) (s .pre .1 .1) (s .pre .1 .6) (sets-verdict _ _ _ _ _ _ _ _ (cell .ensures) (s .pre .1 .5)) (c .before .before .before .before .before .before .before .before .before .if1 .left) (sec .ensures) _ (c .before .more .given .1), s .pre .1 .1)
 
 put-run-close-requires : (t : ℕ) → put-run-lts.Need-close-requires (Ps t) (put-run-at t) put-run.Post
 put-run-close-requires t c κs =
-    let s = c .before .before .before .before .before .before .before .before .before .before .before in
+    let s = c .before .before .before .before .before .before .before .before .before .before .before .before .before in
     let a = s .args in
     let sec = c .before .before .before .before .before .before .section in
-    (omega arith, omega (arith, one-more (a .n) (a .at) (a .run .low) (a .run .high) (a .ya) (a .yb) (a .run .a) (a .run .b) (a .run .ok) (a .work .now) (sec .last .0) (sec .result) (s .pre .1 .1) (s .pre .1 .5) (s .pre .1 .4) (c .before .before .before .before .before .before .before .before .if1 .left) (sec .ensures) _ (c .before .before .more .given .1), s .pre .1 .1, sec .kept .0), omega arith, s .pre .1 .2, s .pre .1 .3)
+    let cell = c .before .before .before .before .before .before .before .before .cell-at in
+    (omega arith, omega (arith, one-more (a .n) (a .at) (a .run .low) (a .run .high) (a .ya) (a .yb) (cell .result .a) (cell .result .b) (a .run .ok) (a .work .now) (sec .last .0) (sec .result) (s .pre .1 .1) (s .pre .1 .6) (sets-verdict _ _ _ _ _ _ _ _ (cell .ensures) (s .pre .1 .5)) (c .before .before .before .before .before .before .before .before .before .before .if1 .left) (sec .ensures) _ (c .before .before .more .given .1), s .pre .1 .1, sec .kept .0), omega arith, s .pre .1 .3, s .pre .1 .4)
 
 put-run-returns-3 : (t : ℕ) → put-run-lts.Need-returns-3 (Ps t) (put-run-at t) put-run.Post
 put-run-returns-3 t c =
-    let s = c .before .before .before .before .before .before .before .before .before .before .before .before .before .before in
+    let s = c .before .before .before .before .before .before .before .before .before .before .before .before .before .before .before .before in
     let a = s .args in
     let sec = c .before .before .before .before .before .before .before .before .before .section in
-    run-put (a .n) (a .at) (a .run .low) (a .run .high) (a .ya) (a .yb) (a .run .a) (a .run .b) (a .run .ok) (a .work .now) (sec .last .0) (sec .result) (s .pre .1 .1) (s .pre .1 .5) (s .pre .1 .4) (c .before .before .before .before .before .before .before .before .before .before .before .if1 .left) (sec .ensures) _ _ (c .before .before .before .before .before .more .given .1) (c .before .before .close .ensures)
+    let cell = c .before .before .before .before .before .before .before .before .before .before .before .cell-at in
+    run-put (a .n) (a .at) (a .run .low) (a .run .high) (a .ya) (a .yb) (cell .result .a) (cell .result .b) (a .run .ok) (a .work .now) (sec .last .0) (sec .result) (s .pre .1 .1) (s .pre .1 .6) (sets-verdict _ _ _ _ _ _ _ _ (cell .ensures) (s .pre .1 .5)) (c .before .before .before .before .before .before .before .before .before .before .before .before .before .if1 .left) (sec .ensures) _ _ (c .before .before .before .before .before .more .given .1) (c .before .before .close .ensures)
 
 -- ---- one dimension left
 
 abbrev last-section-Inv-loop : last-section-lts.InvT-loop
-last-section-Inv-loop work₀ n at a b ya yb x₀ run₀ end₀ work x run end = Scan n at a b ya yb work₀ work x (run .low) (run .high) (run .ok) (run .a) (run .b) end
+last-section-Inv-loop work₀ n at a b ya yb x₀ run₀ end₀ work x run end = Scan n at a b ya yb work₀ work x (run .low) (run .high) (run .ok) end
 
 abbrev last-section-μ-loop : last-section-lts.MeasureT-loop
 last-section-μ-loop work₀ n at a b ya yb x₀ run₀ end₀ work x run end = 65535 - run .high
@@ -133,15 +142,15 @@ last-section-loop-again-2 t c =
 last-section-put-run-requires : (t : ℕ) → last-section-lts.Need-put-run-requires (Ls t) (last-section-at t) last-section.Post last-section-Inv-loop last-section-μ-loop
 last-section-put-run-requires t c κs =
     let inv = c .before .before .before .before .before .before .before .before .loop .inv in
-    (omega (arith, c .before .before .before .before .before .before .before .before .before .before .before .before .before .pre .0), (omega (arith, inv .base, inv .at-end), scan-room inv, inv .low, inv .high, inv .verdict, scan-ready inv))
+    (omega (arith, c .before .before .before .before .before .before .before .before .before .before .before .before .before .pre .0), (omega (arith, inv .base, inv .at-end), scan-room inv, omega (arith, inv .place), inv .low, inv .high, scan-verdict inv, scan-ready inv))
 
 last-section-put-run-requires-2 : (t : ℕ) → last-section-lts.Need-put-run-requires-2 (Ls t) (last-section-at t) last-section.Post last-section-Inv-loop last-section-μ-loop
 last-section-put-run-requires-2 t c κs =
     let inv = c .before .before .before .loop .inv in
-    (omega (arith, c .before .before .before .before .before .before .before .before .pre .0), (omega (arith, inv .base, inv .at-end), scan-room inv, inv .low, inv .high, inv .verdict, scan-ready inv))
+    (omega (arith, c .before .before .before .before .before .before .before .before .pre .0), (omega (arith, inv .base, inv .at-end), scan-room inv, omega (arith, inv .place), inv .low, inv .high, scan-verdict inv, scan-ready inv))
 
-last-section-sub-t21 : (t : ℕ) → last-section-lts.Need-sub-t21 (Ls t) (last-section-at t) last-section.Post last-section-Inv-loop last-section-μ-loop
-last-section-sub-t21 t c =
+last-section-sub-t22 : (t : ℕ) → last-section-lts.Need-sub-t22 (Ls t) (last-section-at t) last-section.Post last-section-Inv-loop last-section-μ-loop
+last-section-sub-t22 t c =
     omega (arith, put-few (c .before .before .before .before .before .before .loop .inv) (c .before .before .put-run2 .ensures))
 
 last-section-returns : (t : ℕ) → last-section-lts.Need-returns (Ls t) (last-section-at t) last-section.Post last-section-Inv-loop last-section-μ-loop
@@ -335,11 +344,12 @@ pub +last-section+put-run+section-spec : {M : Type 1} → statement M
     (last-section-loop-less-2 t)
     (last-section-loop-again-2 t)
     (last-section-put-run-requires-2 t)
-    (last-section-sub-t21 t)
+    (last-section-sub-t22 t)
     (last-section-same-length t)
     (last-section-returns t))
     (λ t. put-run-lts.spec (Ps t) (put-run-at t) put-run.Post
     (put-run-returns t)
+    (put-run-cell-at-requires t)
     (put-run-section-requires t)
     (λ c. search needs)
     (λ c. search needs)
