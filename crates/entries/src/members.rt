@@ -5,8 +5,8 @@ ghost use Rattle.values.specs.Decode.{bytes_at};
 ghost use Rattle.values.specs.Tree.{members_from};
 ghost use Rattle.entries.specs.Members.{Begins, any_of, noted, noted_all, no_six, TestsOf, SixFrom, SixOf};
 
-use json::Next;
-use json::reader::key;
+use jsontext::Next;
+use jsontext::reader::key;
 use text::bytes::byte_at;
 use values::Found;
 use values::clean::both;

@@ -10,12 +10,12 @@ use borrow.Author.Tests.{ltb-false, eqb-true, not-false, lt-ltb, le-ltb, eq-eqb}
 use Rattle.text.proofs.Tests.{by_test, clash, and_left, split}
 use Rattle.flows.specs.Table.{Point, Table, within}
 use Rattle.flows.specs.Flow.{widths, is_flow}
-use Rattle.json.specs.declared.Read.{Read}
-use Rattle.json.specs.declared.Read.TheVariants.{End, Bad}
-use Rattle.json.specs.Reading.{text_of}
-use Rattle.json.specs.Rfc8259.{Text}
-use Rattle.json.proofs.Sound as sound-reader
-use Rattle.json.proofs.Place.{decides}
+use Rattle.jsontext.specs.declared.Read.{Read}
+use Rattle.jsontext.specs.declared.Read.TheVariants.{End, Bad}
+use Rattle.jsontext.specs.Reading.{text_of}
+use Rattle.jsontext.specs.Rfc8259.{Text}
+use Rattle.jsontext.proofs.Sound as sound-reader
+use Rattle.jsontext.proofs.Place.{decides}
 use Rattle.values.specs.Decode.{ended}
 use Rattle.values.specs.Tree.{tree_of}
 use Rattle.site.specs.Site.{judged, stop}

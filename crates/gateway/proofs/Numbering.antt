@@ -7,9 +7,9 @@ use mathlib.Core.Logic.{◌↔◌}
 use native.Mathlib.Omega.{arith}
 use lib.Dec.{eqb, ltb}
 use lib.ListN.{length, get_or}
-use Rattle.json.specs.declared.Read.{Read}
-use Rattle.json.specs.declared.Read.TheVariants.{End, Bad}
-use Rattle.json.specs.Reading.{text_of}
+use Rattle.jsontext.specs.declared.Read.{Read}
+use Rattle.jsontext.specs.declared.Read.TheVariants.{End, Bad}
+use Rattle.jsontext.specs.Reading.{text_of}
 use Rattle.values.specs.declared.Verdict.{Verdict}
 use Rattle.values.specs.declared.Verdict.TheVariants.{Clean, Unclean, Broken}
 use Rattle.values.specs.Decode.{ended}

@@ -17,7 +17,7 @@ use Rattle.builder.specs.declared.Built.{Built}
 use Rattle.builder.specs.declared.Built.TheVariants.{Lines, Over}
 use Rattle.builder.specs.Encoding.{rules_of}
 use Rattle.builder.specs.Promise as builder
-use Rattle.json.specs.Reading.{text_of}
+use Rattle.jsontext.specs.Reading.{text_of}
 use Rattle.values.specs.declared.Verdict.{Verdict}
 use Rattle.values.specs.declared.Verdict.TheVariants.{Clean, Unclean, Broken}
 use Rattle.values.specs.Tree.{tree_of}

@@ -3,7 +3,7 @@
 use Rattle.std.specs.Prelude.{ℕ, Bool, cond, not, ◌&&◌, List, eqb, ltb, length, replicate}
 use Rattle.flows.specs.Table.{Table, table_of}
 use Rattle.flows.specs.Flow.{widths}
-use Rattle.json.specs.Reading.{text_of}
+use Rattle.jsontext.specs.Reading.{text_of}
 use Rattle.values.specs.declared.Verdict.{Verdict}
 use Rattle.values.specs.declared.Verdict.TheVariants.{Clean, Unclean, Broken}
 use Rattle.values.specs.Tree.{Json, tree_of}

@@ -1,6 +1,6 @@
 -- DOCUMENT 01'S TABLE OF NUMBERS, row by row: the condition of each, by itself and without a word of the others.
 use Rattle.std.specs.Prelude.{ℕ, suc, Bool, cond, not, ◌||◌, List, [], ◌∷◌, eqb, ltb, length}
-use Rattle.json.specs.Reading.{text_of}
+use Rattle.jsontext.specs.Reading.{text_of}
 use Rattle.values.specs.Decode.{ended}
 use Rattle.values.specs.Tree.{Json, tree_of}
 use Rattle.values.specs.Clean.{clean}
@@ -20,7 +20,7 @@ tree_rows file rows =
     ∷ (not (all_sound file)
     ∷ (ltb 64 (entries_read file) ∷ rows)))))
 
--- the rows 1 to 12; in row 5 `ended`, by `decides` (json), says that the text is JSON by the grammar of RFC 8259
+-- the rows 1 to 12; in row 5 `ended`, by `decides` (jsontext), says that the text is JSON by the grammar of RFC 8259
 unfoldable pub conditions : List ℕ → List ℕ → ℕ → ℕ → List Bool
 conditions file site reply work =
     not (sized reply work)

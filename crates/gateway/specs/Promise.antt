@@ -1,6 +1,6 @@
 -- What the two public calls promise, and when a file is taken.
 use Rattle.std.specs.Prelude.{ℕ, ◌≤◌, ◌≡◌, true, List, length}
-use Rattle.json.specs.Rfc8259.{Text}
+use Rattle.jsontext.specs.Rfc8259.{Text}
 use Rattle.values.specs.Tree.{tree_of}
 use Rattle.values.specs.Clean.{clean}
 use Rattle.site.specs.Site.{judged}

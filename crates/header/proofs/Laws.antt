@@ -14,10 +14,10 @@ use borrow.Author.Tests.{not-true, not-false, eq-eqb, ne_eqb, le-leb, lt-leb, le
 use Rattle.text.specs.Ascii.{ascii}
 use Rattle.text.specs.Words.{same_bytes}
 use Rattle.text.proofs.Tests.{by_test, both, clash, and_left, and_right}
-use Rattle.json.specs.declared.Next.{Next}
-use Rattle.json.specs.declared.Next.TheVariants.{Done, More, Wrong}
-use Rattle.json.proofs.Runs.{past_is}
-use Rattle.json.specs.Reading.{is_space, span_at, element_at, value_at}
+use Rattle.jsontext.specs.declared.Next.{Next}
+use Rattle.jsontext.specs.declared.Next.TheVariants.{Done, More, Wrong}
+use Rattle.jsontext.proofs.Runs.{past_is}
+use Rattle.jsontext.specs.Reading.{is_space, span_at, element_at, value_at}
 use Rattle.values.specs.declared.Piece.{Piece}
 use Rattle.values.specs.declared.Head.{Head}
 use Rattle.values.specs.declared.Head.TheVariants.{Nil}

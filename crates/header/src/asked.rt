@@ -6,8 +6,8 @@ ghost use Rattle.values.specs.Rules.{must, may, text};
 ghost use Rattle.header.specs.Asked.{is_null_array, is_network, spelt, obeys};
 
 use super::strings;
-use json::Next;
-use json::space::skip;
+use jsontext::Next;
+use jsontext::space::skip;
 use text::bytes::byte_at;
 use text::networks::Block;
 use values::walk::{first_item, inner, member, next_element};

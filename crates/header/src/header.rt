@@ -4,7 +4,7 @@ ghost use Rattle.values.specs.Tree.{tree_at, tree_of};
 ghost use Rattle.header.specs.Header.{header_ok, outermost_ok};
 
 use super::asked::{Asked, Form, may_be, must_be};
-use json::space::skip;
+use jsontext::space::skip;
 use values::Found;
 use values::walk::member;
 

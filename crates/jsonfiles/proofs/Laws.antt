@@ -5,7 +5,7 @@ use mathlib.Core.List.{List}
 use lib.ListN.{length}
 use borrow.Author.Rules.{rules}
 use borrow.Author.Tests.{lt-ltb, le-ltb}
-use Rattle.json.specs.Reading.{text_of}
+use Rattle.jsontext.specs.Reading.{text_of}
 use Rattle.values.specs.declared.Verdict.{Verdict}
 use Rattle.values.specs.declared.Verdict.TheVariants.{Clean, Unclean, Broken}
 use Rattle.values.specs.Tree.{tree_of}

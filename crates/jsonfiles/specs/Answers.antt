@@ -1,6 +1,6 @@
 -- The numbers 4 to 6 of document 01, and 0.
 use Rattle.std.specs.Prelude.{ℕ, List, cond, length, ltb}
-use Rattle.json.specs.Reading.{text_of}
+use Rattle.jsontext.specs.Reading.{text_of}
 use Rattle.values.specs.declared.Verdict.{Verdict}
 use Rattle.values.specs.declared.Verdict.TheVariants.{Clean, Unclean, Broken}
 use Rattle.values.specs.Tree.{tree_of}

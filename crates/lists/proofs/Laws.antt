@@ -8,10 +8,10 @@ use borrow.Author.Tests.{not-true, not-false}
 use Rattle.text.specs.Ascii.{ascii}
 use Rattle.text.specs.Words.{same_bytes}
 use Rattle.text.proofs.Tests.{chained}
-use Rattle.json.specs.declared.Next.{Next}
-use Rattle.json.specs.declared.Next.TheVariants.{Done, More, Wrong}
-use Rattle.json.specs.Reading.{is_space, span_at, element_at, value_at}
-use Rattle.json.proofs.Runs.{past_is}
+use Rattle.jsontext.specs.declared.Next.{Next}
+use Rattle.jsontext.specs.declared.Next.TheVariants.{Done, More, Wrong}
+use Rattle.jsontext.specs.Reading.{is_space, span_at, element_at, value_at}
+use Rattle.jsontext.proofs.Runs.{past_is}
 use Rattle.values.specs.declared.Found.{Found}
 use Rattle.values.specs.declared.Found.TheVariants.{At, Missing}
 use Rattle.values.specs.declared.Entry.{Entry}

@@ -1,6 +1,6 @@
 -- What the private functions promise one another; no public call is told by these.
 use Rattle.std.specs.Prelude.{ℕ, ◌≡◌, List, Bool, true, false, cond}
-use Rattle.json.specs.Reading.{is_space, span_at}
+use Rattle.jsontext.specs.Reading.{is_space, span_at}
 use Rattle.values.specs.declared.Entry.{Entry}
 use Rattle.values.specs.declared.Entry.TheVariants.{Known, Kept, Full}
 use Rattle.values.specs.Decode.{bytes_at}

@@ -7,8 +7,8 @@ ghost use Rattle.lists.specs.Lists.{lists_of};
 ghost use Rattle.lists.specs.Index.{Onward, Indexed, Above};
 
 use super::policies::lists_of;
-use json::Next;
-use json::space::skip;
+use jsontext::Next;
+use jsontext::space::skip;
 use text::bytes::byte_at;
 use values::names::enter;
 use values::walk::{member, next_element};

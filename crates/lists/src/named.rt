@@ -8,8 +8,8 @@ ghost use Rattle.lists.specs.Index.{Indexed};
 
 use super::index::{Index, above};
 use super::names::{is_nested, name_of};
-use json::Next;
-use json::space::skip;
+use jsontext::Next;
+use jsontext::space::skip;
 use text::bytes::byte_at;
 use values::Found;
 use values::names::find;

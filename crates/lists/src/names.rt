@@ -9,8 +9,8 @@ ghost use Rattle.lists.specs.Lists.{has_string_name, name_of, names_of, all_diff
 ghost use Rattle.lists.specs.Names.{again_of, Added};
 
 use header::asked::{Asked, must_be};
-use json::Next;
-use json::space::skip;
+use jsontext::Next;
+use jsontext::space::skip;
 use values::names::{enter, grown};
 use values::strings::{same_string, string_place};
 use values::walk::{first_item, inner, member, next_element};

@@ -9,8 +9,8 @@ use super::index::{Index, above};
 use super::named::{names_list, nested_at};
 use super::names::is_nested;
 use flows::Direction;
-use json::Next;
-use json::space::skip;
+use jsontext::Next;
+use jsontext::space::skip;
 use values::walk::{member, next_element};
 use values::{Found, plain};
 

@@ -14,10 +14,10 @@ use Rattle.flows.specs.Flow.{widths}
 use Rattle.builder.specs.declared.Built.{Built}
 use Rattle.builder.specs.declared.Built.TheVariants.{Lines, Over}
 use Rattle.builder.specs.Promise.{BuiltIn}
-use Rattle.json.specs.declared.Read.{Read}
-use Rattle.json.specs.declared.Read.TheVariants.{End, Bad}
-use Rattle.json.specs.Reading.{text_of}
-use Rattle.json.specs.Judged.{Answer}
+use Rattle.jsontext.specs.declared.Read.{Read}
+use Rattle.jsontext.specs.declared.Read.TheVariants.{End, Bad}
+use Rattle.jsontext.specs.Reading.{text_of}
+use Rattle.jsontext.specs.Judged.{Answer}
 use Rattle.stored.specs.Text.{reply_of}
 use Rattle.stored.specs.Words.{Fits}
 use Rattle.reply.specs.Lines.{lines_in}

@@ -1,8 +1,8 @@
 -- What the measured functions return, and what they leave in a reply.
 use Rattle.std.specs.Prelude.{ℕ, ◌≡◌, Bool, cond, ◌&&◌, List, eqb, leb, length}
 use Rattle.flows.specs.Table.{Table}
-use Rattle.json.specs.declared.Read.{Read}
-use Rattle.json.specs.declared.Read.TheVariants.{End, Bad}
+use Rattle.jsontext.specs.declared.Read.{Read}
+use Rattle.jsontext.specs.declared.Read.TheVariants.{End, Bad}
 use Rattle.stored.specs.Text.{reply_of}
 
 -- 1 for a text that was read to its end

@@ -4,12 +4,12 @@ ghost use Rattle.flows.specs.Table.{table_of};
 ghost use Rattle.flows.specs.Flow.{widths};
 ghost use Rattle.flows.specs.Rules.{let_through};
 ghost use Rattle.builder.specs.Encoding.{rules_of};
-ghost use Rattle.json.specs.Reading.{text_of};
+ghost use Rattle.jsontext.specs.Reading.{text_of};
 ghost use Rattle.measured.specs.Measured.{text_number, sized, all_sized, lines_number, Written, Replied};
 
 use builder::Built;
-use json::Read;
-use json::reader::whole_text;
+use jsontext::Read;
+use jsontext::reader::whole_text;
 
 // 1 for a JSON text that is nested at most 16 deep, else 0.
 #[unsafe(no_mangle)]

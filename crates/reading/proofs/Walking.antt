@@ -12,9 +12,9 @@ use Rattle.text.specs.Ascii.{ascii}
 use Rattle.text.specs.Written.{Put}
 use Rattle.text.proofs.Tests.{by_test}
 use Rattle.flows.specs.declared.Direction.{Direction}
-use Rattle.json.specs.declared.Next.{Next}
-use Rattle.json.specs.declared.Next.TheVariants.{Done, More, Wrong}
-use Rattle.json.specs.Reading.{is_space, span_at, element_at, value_at}
+use Rattle.jsontext.specs.declared.Next.{Next}
+use Rattle.jsontext.specs.declared.Next.TheVariants.{Done, More, Wrong}
+use Rattle.jsontext.specs.Reading.{is_space, span_at, element_at, value_at}
 use Rattle.values.specs.declared.Found.{Found}
 use Rattle.values.specs.declared.Found.TheVariants.{At, Missing}
 use Rattle.values.specs.Tree.{Json, Elements, tree_at, tree_of, seen, items_from, elements_from, elements_after}

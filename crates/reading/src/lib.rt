@@ -14,8 +14,8 @@ ghost use Rattle.reading.specs.Read.{put_defaults, BothWalked, EntriesRead, Read
 
 use entries::places::{Parts, parts_of};
 use flows::Direction;
-use json::Next;
-use json::space::skip;
+use jsontext::Next;
+use jsontext::space::skip;
 use lists::index::Index;
 use lists::named::{has_type, list_of, nested_at};
 use lists::policies::{lists_of, policy_lists};

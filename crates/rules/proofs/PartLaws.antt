@@ -15,7 +15,7 @@ use Rattle.text.specs.Networks.{network_at}
 use Rattle.text.specs.declared.networks.Block.{Block}
 use Rattle.text.specs.declared.networks.Block.TheVariants.{Net, NoNet}
 use Rattle.flows.specs.declared.Direction.{Direction}
-use Rattle.json.proofs.Runs.{past_is}
+use Rattle.jsontext.proofs.Runs.{past_is}
 use Rattle.values.specs.declared.Count.{Count}
 use Rattle.values.specs.declared.Count.TheVariants.{Is, Not}
 use Rattle.values.specs.declared.Found.{Found}

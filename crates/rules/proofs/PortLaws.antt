@@ -10,7 +10,7 @@ use lib.Dec.{eqb}
 use borrow.Author.Rules.{rules}
 use borrow.Author.Tests.{eq-eqb, ne_eqb, lt-ltb, le-ltb}
 use Rattle.text.specs.Ascii.{ascii}
-use Rattle.json.proofs.Runs.{past_is}
+use Rattle.jsontext.proofs.Runs.{past_is}
 use Rattle.values.specs.declared.Count.{Count}
 use Rattle.values.specs.declared.Count.TheVariants.{Is, Not}
 use Rattle.values.specs.declared.Found.{Found}

@@ -16,7 +16,7 @@ use Rattle.text.proofs.WrittenLaws.{and_then}
 use Rattle.flows.specs.Numbers.{direction_number}
 use Rattle.flows.specs.declared.Direction.{Direction}
 use Rattle.flows.specs.declared.Direction.TheVariants.{FromDevice, ToDevice}
-use Rattle.json.proofs.Runs.{past_is}
+use Rattle.jsontext.proofs.Runs.{past_is}
 use Rattle.values.specs.declared.Found.{Found}
 use Rattle.values.specs.declared.Found.TheVariants.{At, Missing}
 use Rattle.values.specs.Decode.{bytes_at}

@@ -13,7 +13,7 @@ use Rattle.gateway.specs.Answer as answer
 use Rattle.gateway.specs.Order as order
 use Rattle.header.specs.Asked as header-Asked
 use Rattle.header.specs.Header as header-Header
-use Rattle.json.specs.Reading as json-Reading
+use Rattle.jsontext.specs.Reading as json-Reading
 use Rattle.lists.specs.Lists as lists-Lists
 use Rattle.naming.specs.Masks as naming-Masks
 use Rattle.naming.specs.Named as naming-Named

@@ -8,13 +8,13 @@ use lib.ListN.{length, get_or}
 use borrow.Author.Rules.{rules}
 use borrow.Author.Tests.{lt-ltb, le-ltb}
 use Rattle.text.specs.Words.{same_bytes}
-use Rattle.json.specs.declared.Read.{Read}
-use Rattle.json.specs.declared.Read.TheVariants.{End, Bad}
-use Rattle.json.specs.declared.Next.{Next}
-use Rattle.json.specs.declared.Next.TheVariants.{Done, More, Wrong}
-use Rattle.json.specs.Reading.{is_space, span_at, token_at, next_at, key_at, start_of, element_at, member_at, value_at, text_of, string_at, array_at, object_at, skip_at, stop}
-use Rattle.json.proofs.Runs.{past_is, Going, going_bad, going_done, going_wrong, going_on, going_less}
-use Rattle.json.proofs.Nesting.{element_bad, element_of, element_up, member_bad, member_wrong, member_of, member_up, array_empty, array_going, object_empty, object_going, value_text, value_array, value_object, value_deep_array, value_deep_object}
+use Rattle.jsontext.specs.declared.Read.{Read}
+use Rattle.jsontext.specs.declared.Read.TheVariants.{End, Bad}
+use Rattle.jsontext.specs.declared.Next.{Next}
+use Rattle.jsontext.specs.declared.Next.TheVariants.{Done, More, Wrong}
+use Rattle.jsontext.specs.Reading.{is_space, span_at, token_at, next_at, key_at, start_of, element_at, member_at, value_at, text_of, string_at, array_at, object_at, skip_at, stop}
+use Rattle.jsontext.proofs.Runs.{past_is, Going, going_bad, going_done, going_wrong, going_on, going_less}
+use Rattle.jsontext.proofs.Nesting.{element_bad, element_of, element_up, member_bad, member_wrong, member_of, member_up, array_empty, array_going, object_empty, object_going, value_text, value_array, value_object, value_deep_array, value_deep_object}
 use Rattle.values.specs.Decode.{bytes_at}
 use Rattle.values.specs.Tree.{Json, Members, member, elements_at, members_at, name_at, place_at, elements_of, members_of, tree_at, tree_of, elements_from, elements_after, members_from, members_after, elements_in, members_in}
 use Rattle.values.specs.Clean.{all_bytes, absent, clean, clean_elements, clean_members, verdict_of}

@@ -14,8 +14,8 @@ use borrow.Author.Tests.{eq-eqb, ne_eqb, lt-ltb, le-ltb, not-false}
 use Rattle.text.specs.Words.{same_bytes}
 use Rattle.text.proofs.Tests.{by_test}
 use Rattle.text.proofs.ByteLaws.{inside, between_low, between_high}
-use Rattle.json.specs.Reading.{span_at}
-use Rattle.json.proofs.Complete.{span_more, span_stop, span_end}
+use Rattle.jsontext.specs.Reading.{span_at}
+use Rattle.jsontext.proofs.Complete.{span_more, span_stop, span_end}
 use Rattle.values.specs.declared.Piece.{Piece}
 use Rattle.values.specs.declared.Piece.TheVariants.{Stop, One, Two, Three, Four}
 use Rattle.values.specs.declared.Head.{Head}
@@ -23,7 +23,7 @@ use Rattle.values.specs.declared.Head.TheVariants.{Nil, Is}
 use Rattle.values.specs.Decode.{piece_at, before, bytes_at, first_of, rest_of, is_raw, Common, Begun}
 use Rattle.values.specs.Clean.{all_bytes}
 use native.Mathlib.Nat.{add-zero}
-use Rattle.json.proofs.Sound.{split}
+use Rattle.jsontext.proofs.Sound.{split}
 use Rattle.values.specs.Names.{Later}
 use Rattle.values.proofs.Decoding.{string_turn, piece_plain}
 

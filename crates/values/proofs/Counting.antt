@@ -14,12 +14,12 @@ use borrow.Author.Tests.{eq-eqb, ne_eqb, ltb-true, lt-ltb, le-ltb, le-leb, lt-le
 use Rattle.text.specs.Bytes.{is_digit}
 use Rattle.text.proofs.Tests.{cond_cases}
 use Rattle.text.proofs.ByteLaws.{between_low, between_high, digit_inside}
-use Rattle.json.specs.declared.Read.{Read}
-use Rattle.json.specs.declared.Read.TheVariants.{End, Bad}
-use Rattle.json.specs.declared.Start.TheVariants.{Number}
-use Rattle.json.specs.Reading.{span_at, number_at, start_of}
-use Rattle.json.proofs.Complete.{span_from, span_more, span_stop, span_end}
-use Rattle.json.proofs.Lexing.{start_digit}
+use Rattle.jsontext.specs.declared.Read.{Read}
+use Rattle.jsontext.specs.declared.Read.TheVariants.{End, Bad}
+use Rattle.jsontext.specs.declared.Start.TheVariants.{Number}
+use Rattle.jsontext.specs.Reading.{span_at, number_at, start_of}
+use Rattle.jsontext.proofs.Complete.{span_from, span_more, span_stop, span_end}
+use Rattle.jsontext.proofs.Lexing.{start_digit}
 use Rattle.values.specs.declared.Count.{Count}
 use Rattle.values.specs.declared.Count.TheVariants.{Is as Int, Not}
 use Rattle.values.specs.Tree.{Json, real, Elements, Members, end_of, decimal, number_of, tree_by, tree_at, capped, count_of}

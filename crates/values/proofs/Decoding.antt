@@ -14,15 +14,15 @@ use borrow.Author.Tests.{eq-eqb, ne_eqb, lt-ltb, le-ltb}
 use Rattle.text.specs.Bytes.{between, is_digit}
 use Rattle.text.proofs.Tests.{by_test, clash, cond_cases, and_left, and_right}
 use Rattle.text.proofs.ByteLaws.{inside, between_from, between_below, between_low, between_high}
-use Rattle.json.specs.declared.Read.{Read}
-use Rattle.json.specs.declared.Read.TheVariants.{End, Bad}
-use Rattle.json.specs.Reading.{is_hex, is_escape, one_at, times_at}
-use Rattle.json.proofs.Runs.{past_is}
+use Rattle.jsontext.specs.declared.Read.{Read}
+use Rattle.jsontext.specs.declared.Read.TheVariants.{End, Bad}
+use Rattle.jsontext.specs.Reading.{is_hex, is_escape, one_at, times_at}
+use Rattle.jsontext.proofs.Runs.{past_is}
 use Rattle.values.specs.declared.Piece.{Piece}
 use Rattle.values.specs.declared.Piece.TheVariants.{Stop, One, Two, Three, Four}
 use Rattle.values.specs.declared.Head.TheVariants.{Is}
 use Rattle.values.specs.Decode.{digit_of, unit_at, letter_of, utf8, utf8_long, is_high, is_low, pair_of, ended, low_at, partner_at, escaped_at, after_digits, unicode_at, piece_at, before, bytes_from, bytes_at, first_of, rest_of}
-use Rattle.json.proofs.Sound.{inside_by}
+use Rattle.jsontext.proofs.Sound.{inside_by}
 
 -- a digit of base 16
 module _ (b n : ℕ) (e : n ≡ b) {t : Bool} (p : t ≡ is_digit b) where

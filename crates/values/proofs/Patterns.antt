@@ -7,10 +7,10 @@ use native.Mathlib.Omega.{arith}
 use lib.ListN.{length, get_or, get_or-eq_default}
 use borrow.Author.Rules.{rules}
 use borrow.Author.Tests.{not-true, not-false}
-use Rattle.json.specs.declared.Next.{Next}
-use Rattle.json.specs.declared.Next.TheVariants.{Done, More, Wrong}
-use Rattle.json.specs.Reading.{is_space, span_at, element_at, member_at, value_at}
-use Rattle.json.proofs.Runs.{past_is}
+use Rattle.jsontext.specs.declared.Next.{Next}
+use Rattle.jsontext.specs.declared.Next.TheVariants.{Done, More, Wrong}
+use Rattle.jsontext.specs.Reading.{is_space, span_at, element_at, member_at, value_at}
+use Rattle.jsontext.proofs.Runs.{past_is}
 use Rattle.values.specs.declared.Found.{Found}
 use Rattle.values.specs.declared.Found.TheVariants.{At, Missing}
 use Rattle.values.specs.Decode.{piece_at, bytes_at}

@@ -8,9 +8,9 @@ use lib.Dec.{eqb}
 use borrow.Author.Rules.{rules}
 use borrow.Author.Tests.{eqb-true, eqb-false}
 use Rattle.text.proofs.Tests.{by_test}
-use Rattle.json.specs.declared.Start.{Start}
-use Rattle.json.specs.declared.Start.TheVariants.{Array, Object, Text, True, False, Null}
-use Rattle.json.specs.Reading.{start_of}
+use Rattle.jsontext.specs.declared.Start.{Start}
+use Rattle.jsontext.specs.declared.Start.TheVariants.{Array, Object, Text, True, False, Null}
+use Rattle.jsontext.specs.Reading.{start_of}
 use Rattle.values.specs.Tree.{Json, Elements, Members, tree_by, tree_at, is_null, is_bool, is_string, is_array, is_object}
 use Rattle.values.proofs.Trees.{tree_kinds, tree_start}
 

@@ -9,8 +9,8 @@ use lib.Dec.{eqb, ltb}
 use borrow.Author.Tests.{eqb-true}
 use Rattle.text.specs.Bytes.{is_digit}
 use Rattle.text.proofs.Tests.{cond_cases}
-use Rattle.json.specs.declared.Start.{Start}
-use Rattle.json.specs.Reading.{span_at, number_at, start_of}
+use Rattle.jsontext.specs.declared.Start.{Start}
+use Rattle.jsontext.specs.Reading.{span_at, number_at, start_of}
 use Rattle.values.specs.Decode.{bytes_at}
 use Rattle.values.specs.Tree.{Json, null, bool, integer, real, string, array, object, Elements, Members, end_of, elements_at, members_at, elements_of, members_of, number_of, tree_by, tree_at}
 

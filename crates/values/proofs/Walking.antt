@@ -10,13 +10,13 @@ use borrow.Author.Rules.{rules}
 use borrow.Author.Tests.{eqb-true, eqb-false}
 use Rattle.text.specs.Words.{same_bytes}
 use Rattle.text.proofs.Tests.{by_test}
-use Rattle.json.specs.declared.Read.{Read}
-use Rattle.json.specs.declared.Read.TheVariants.{End, Bad}
-use Rattle.json.specs.declared.Next.{Next}
-use Rattle.json.specs.declared.Next.TheVariants.{Done, More, Wrong}
-use Rattle.json.specs.Reading.{is_space, span_at, token_at, key_at, start_of, element_at, member_at, value_at}
-use Rattle.json.proofs.Runs.{past_is, NextPast}
-use Rattle.json.proofs.Nesting.{element_bad, element_of, element_up, member_bad, member_wrong, member_of, member_up}
+use Rattle.jsontext.specs.declared.Read.{Read}
+use Rattle.jsontext.specs.declared.Read.TheVariants.{End, Bad}
+use Rattle.jsontext.specs.declared.Next.{Next}
+use Rattle.jsontext.specs.declared.Next.TheVariants.{Done, More, Wrong}
+use Rattle.jsontext.specs.Reading.{is_space, span_at, token_at, key_at, start_of, element_at, member_at, value_at}
+use Rattle.jsontext.proofs.Runs.{past_is, NextPast}
+use Rattle.jsontext.proofs.Nesting.{element_bad, element_of, element_up, member_bad, member_wrong, member_of, member_up}
 use Rattle.values.specs.declared.Found.{Found}
 use Rattle.values.specs.declared.Found.TheVariants.{At, Missing}
 use Rattle.values.specs.Decode.{bytes_at}

@@ -2,9 +2,9 @@
 -- A surrogate escape without its partner stands as its own number, which is above 0xFF and so no byte.
 use Rattle.std.specs.Prelude.{ℕ, zero, suc, ◌+◌, ◌-◌, ◌*◌, ◌/◌, ◌%◌, ◌^◌, ◌≤◌, ◌<◌, ◌≡◌, List, [], ◌∷◌, ◌++◌, Bool, true, false, cond, ◌&&◌, ◌||◌, length, take, ltb}
 use Rattle.text.specs.Bytes.{byte_at, between, is_digit}
-use Rattle.json.specs.declared.Read.{Read}
-use Rattle.json.specs.declared.Read.TheVariants.{End, Bad}
-use Rattle.json.specs.Reading.{is, is_hex, is_escape, times_at}
+use Rattle.jsontext.specs.declared.Read.{Read}
+use Rattle.jsontext.specs.declared.Read.TheVariants.{End, Bad}
+use Rattle.jsontext.specs.Reading.{is, is_hex, is_escape, times_at}
 use Rattle.values.specs.declared.Piece.{Piece}
 use Rattle.values.specs.declared.Piece.TheVariants.{Stop, One, Two, Three, Four}
 use Rattle.values.specs.declared.Head.{Head}

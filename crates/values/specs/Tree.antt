@@ -2,13 +2,13 @@
 use Rattle.std.specs.Prelude.{ℕ, zero, suc, ◌+◌, ◌-◌, ◌*◌, List, [], ◌∷◌, Bool, true, false, cond, length, drop, take, ltb, eqb}
 use Rattle.text.specs.Bytes.{byte_at, is_digit}
 use Rattle.text.specs.Words.{same_bytes}
-use Rattle.json.specs.declared.Read.{Read}
-use Rattle.json.specs.declared.Read.TheVariants.{End, Bad}
-use Rattle.json.specs.declared.Next.{Next}
-use Rattle.json.specs.declared.Next.TheVariants.{Done, More, Wrong}
-use Rattle.json.specs.declared.Start.{Start}
-use Rattle.json.specs.declared.Start.TheVariants.{Array, Object, Text, True, False, Null, Number, Nothing}
-use Rattle.json.specs.Reading.{is_space, span_at, token_at, number_at, key_at, start_of, element_at, member_at, value_at}
+use Rattle.jsontext.specs.declared.Read.{Read}
+use Rattle.jsontext.specs.declared.Read.TheVariants.{End, Bad}
+use Rattle.jsontext.specs.declared.Next.{Next}
+use Rattle.jsontext.specs.declared.Next.TheVariants.{Done, More, Wrong}
+use Rattle.jsontext.specs.declared.Start.{Start}
+use Rattle.jsontext.specs.declared.Start.TheVariants.{Array, Object, Text, True, False, Null, Number, Nothing}
+use Rattle.jsontext.specs.Reading.{is_space, span_at, token_at, number_at, key_at, start_of, element_at, member_at, value_at}
 use Rattle.values.specs.Decode.{bytes_at}
 use Rattle.values.specs.declared.Count.{Count}
 use Rattle.values.specs.declared.Count.TheVariants.{Is, Not}

@@ -1,6 +1,6 @@
 // Numbers 5 and 6: a text that is no JSON; an object with two members of one name, or a surrogate escape without its partner.
 ghost use Rattle.std.specs.Prelude.{◌≡◌, ◌&&◌, ◌≤◌, length};
-ghost use Rattle.json.specs.Reading.{string_at, array_at, object_at, value_at, text_of};
+ghost use Rattle.jsontext.specs.Reading.{string_at, array_at, object_at, value_at, text_of};
 ghost use Rattle.values.specs.Decode.{bytes_at};
 ghost use Rattle.values.specs.Tree.{name_at, tree_at, tree_of, elements_in, members_in, members_after};
 ghost use Rattle.values.specs.Clean.{all_bytes, absent, clean, clean_elements, clean_members, verdict_of};
@@ -10,10 +10,10 @@ use super::names::{enter, grown};
 use super::strings::{all_bytes, same_string};
 use super::walk::{name_place, next_member};
 use super::{Checked, Entry, Field, Verdict};
-use json::reader::{key, value};
-use json::space::{follow, skip, token};
-use json::strings::string;
-use json::{Next, Read};
+use jsontext::reader::{key, value};
+use jsontext::space::{follow, skip, token};
+use jsontext::strings::string;
+use jsontext::{Next, Read};
 use text::bytes::byte_at;
 
 // Have the members after the one at a place other names?

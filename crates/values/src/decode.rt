@@ -2,11 +2,11 @@
 // strings are compared while they are decoded and nothing is copied.
 ghost use Rattle.std.specs.Prelude.{◌≡◌, ◌+◌, ◌≤◌, ◌<◌, length};
 ghost use Rattle.values.specs.Decode.{digit_of, unit_at, letter_of, utf8, utf8_long, is_high, is_low, pair_of, low_at, partner_at, escaped_at, unicode_at, piece_at, is_raw, Common, Begun, first_of, rest_of};
-ghost use Rattle.json.specs.Reading.{span_at};
+ghost use Rattle.jsontext.specs.Reading.{span_at};
 
 use super::{Head, Piece};
-use json::Read;
-use json::strings::{hex, is_escape};
+use jsontext::Read;
+use jsontext::strings::{hex, is_escape};
 use text::bytes::{byte_at, is_between, is_digit};
 
 pub fn wide(b: u8) -> u32

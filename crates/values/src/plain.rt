@@ -1,13 +1,13 @@
 // Kinds of values, and integers.
 ghost use Rattle.std.specs.Prelude.{◌≡◌, ◌+◌, ◌-◌, ◌*◌, ◌≤◌, drop, take};
 ghost use Rattle.text.specs.Bytes.{is_digit};
-ghost use Rattle.json.specs.Reading.{span_at, number_at};
+ghost use Rattle.jsontext.specs.Reading.{span_at, number_at};
 ghost use Rattle.values.specs.Tree.{tree_at, is_null, is_bool, is_string, is_array, is_object, end_of, decimal, capped, count_of};
 ghost use Rattle.values.specs.Rules.{within};
 
 use super::Count;
-use json::Read;
-use json::numbers::{digits, number};
+use jsontext::Read;
+use jsontext::numbers::{digits, number};
 use text::bytes::{byte_at, is_digit};
 
 pub fn is_string(s: &[u8], at: usize, depth: usize) -> bool

@@ -2,15 +2,15 @@
 // first begins after the opening bracket.
 ghost use Rattle.std.specs.Prelude.{◌≡◌, ◌-◌};
 ghost use Rattle.text.specs.Words.{same_bytes};
-ghost use Rattle.json.specs.Reading.{key_at, member_at, element_at, value_at};
+ghost use Rattle.jsontext.specs.Reading.{key_at, member_at, element_at, value_at};
 ghost use Rattle.values.specs.Decode.{bytes_at};
 ghost use Rattle.values.specs.Tree.{name_at, place_at, tree_at, items, fields, items_from, fields_from, members_from, find, lookup, seen};
 
 use super::Found;
 use super::strings::string_is;
-use json::reader::{key, value};
-use json::space::{follow, skip, token};
-use json::{Next, Read};
+use jsontext::reader::{key, value};
+use jsontext::space::{follow, skip, token};
+use jsontext::{Next, Read};
 use text::bytes::byte_at;
 
 // The member after the one that begins at a place, whose key is read.

@@ -39,7 +39,7 @@ use denote.Triple.Table.{entered, cited}
 use denote.Triple.Walked.{says, Stays, stay_none_slice, walk_of, Goes-none_slice, Walks, ends_at, walked, walk_Meets}
 use denote.Exit.{yes}
 use denote.Triple.Clauses.{ensured, lasts}
-use Rattle.json.specs.Reading.{is_space, span_at}
+use Rattle.jsontext.specs.Reading.{is_space, span_at}
 use Rattle.values.specs.Tree.{tree_at, tree_of, lookup, seen}
 use Rattle.values.specs.declared.Found.{Found}
 use Rattle.values.specs.contracts.Found as S

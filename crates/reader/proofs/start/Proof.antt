@@ -1,4 +1,4 @@
--- `reader::start` meets its contract: a walk of its MIR, by hand. The place is what `json::space::skip` finds from 0 on, and a `Reader` is made of the slice passed and that place, in the result's local.
+-- `reader::start` meets its contract: a walk of its MIR, by hand. The place is what `jsontext::space::skip` finds from 0 on, and a `Reader` is made of the slice passed and that place, in the result's local.
 -- A `&[u8]` is Copy, so what it owns is had thrice: once for the callee, once for the file at exit, and once inside the result, beside the facts of the place.
 -- Assumes nothing.
 use mathlib.Core.Path.{◌≡◌, refl, ap}
@@ -39,11 +39,11 @@ use denote.Triple.Table.{entered, cited}
 use denote.Triple.Walked.{says, Stays, stay_none_slice, walk_of, Goes-none_slice, Walks, ends_at, walked, walk_Meets}
 use denote.Exit.{yes}
 use denote.Triple.Clauses.{ensured, lasts}
-use Rattle.json.specs.Reading.{is_space, span_at}
-use Rattle.json.specs.contracts.space.skip as callee
-use Rattle.json.proofs.space.skip.Symbol as callee-def
-use Rattle.json.proofs.space.skip.Symbol.{name as #json·space·skip}
-use Rattle.json.proofs.space.skip.Met as callee-thm
+use Rattle.jsontext.specs.Reading.{is_space, span_at}
+use Rattle.jsontext.specs.contracts.space.skip as callee
+use Rattle.jsontext.proofs.space.skip.Symbol as callee-def
+use Rattle.jsontext.proofs.space.skip.Symbol.{name as #json·space·skip}
+use Rattle.jsontext.proofs.space.skip.Met as callee-thm
 use Rattle.reader.specs.declared.Reader.{Reader}
 use Rattle.reader.specs.contracts.Reader as T
 use Rattle.reader.proofs.Reader.TheLaws as T'
@@ -153,4 +153,4 @@ start_spec 𝓤 𝓛 𝓜 𝓡 =
     entered 𝓤 𝓛.H (triple_of 𝓛 f.signature (f.spec 𝓛 𝓜.mem 𝓡.run))
     (tables 𝓤 𝓛.H 𝓜 𝓡 code.env).C (tables 𝓤 𝓛.H 𝓜 𝓡 code.env).Λ #reader·start code.function (code.unfolded 𝓤 𝓛.H 𝓜 𝓡)
     (meets 𝓛 𝓜.mem 𝓡.run (tables_of 𝓤 𝓛.H 𝓜 (tables 𝓤 𝓛.H 𝓜 𝓡 code.env))
-    (cited 𝓤 𝓛.H (Skip 𝓛 𝓜.mem 𝓡.run) 𝓜 𝓡 code.env #json·space·skip callee-def.routine code.calls-json::space::skip (callee-thm.met 𝓤 𝓛 𝓜 𝓡)))
+    (cited 𝓤 𝓛.H (Skip 𝓛 𝓜.mem 𝓡.run) 𝓜 𝓡 code.env #json·space·skip callee-def.routine code.calls-jsontext::space::skip (callee-thm.met 𝓤 𝓛 𝓜 𝓡)))

@@ -15,11 +15,11 @@ use Rattle.values.proofs.clean.+check_array_check_member_check_object_check_valu
 use Rattle.values.proofs.clean.check_value.Reads as check-value
 use Rattle.values.proofs.clean.check_value.Kinds as check-value-kinds
 use Rattle.values.proofs.clean.+check_array_check_member_check_object_check_value.Lts-check_value as check-value-lts
-use Rattle.json.proofs.reader.key.Reads as key_reads
-use Rattle.json.proofs.reader.value.Reads as value-reads
-use Rattle.json.proofs.space.follow.Reads as follow-reads
-use Rattle.json.proofs.space.skip.Reads as skip-reads
-use Rattle.json.proofs.space.token.Reads as token-reads
+use Rattle.jsontext.proofs.reader.key.Reads as key_reads
+use Rattle.jsontext.proofs.reader.value.Reads as value-reads
+use Rattle.jsontext.proofs.space.follow.Reads as follow-reads
+use Rattle.jsontext.proofs.space.skip.Reads as skip-reads
+use Rattle.jsontext.proofs.space.token.Reads as token-reads
 use Rattle.text.proofs.bytes.byte_at.Reads as byte-at-reads
 use Rattle.values.proofs.clean.both.Reads as both-reads
 use Rattle.values.proofs.clean.check_string.Reads as check-string-reads

@@ -1,4 +1,4 @@
-use Rattle.json.proofs.Lexing.{lexing}
+use Rattle.jsontext.proofs.Lexing.{lexing}
 use Rattle.values.specs.Decode.{is_raw}
 use Rattle.values.proofs.decode.is_raw.Statement.{statement}
 use Rattle.values.proofs.decode.is_raw.Tie as tie

@@ -1,5 +1,5 @@
-use Rattle.json.proofs.Runs.{loops}
-use Rattle.json.specs.Reading.{span_at}
+use Rattle.jsontext.proofs.Runs.{loops}
+use Rattle.jsontext.specs.Reading.{span_at}
 use Rattle.values.specs.Decode.{is_raw}
 use lib.ListN.{length}
 use Prim.Native.Nat.{◌-◌}
