@@ -61,10 +61,10 @@ pub ruleset judging = (rules, cell_verdict)
 
 -- ---- a run put down
 module _ (n at lo hi ya yb ra rb : ℕ) (ok : Bool) (w w' : List ℕ) (r : Built) (room : 3 * at + 3 ≤ length w) (ready : Ready n ya yb (take 1555 w) w) (verdict : ok ≡ first_or 64 ya ra (first_or 64 yb rb false))
-    (accepted : not ok ≡ false) (b : BuiltTo (table_left 0 n (take 1555 w) ra rb) at 6 w w' r) where
+    (accepted : ok ≡ true) (b : BuiltTo (table_left 0 n (take 1555 w) ra rb) at 6 w w' r) where
   -- with no dimension left there is one line
   one : table_left 0 n (take 1555 w) ra rb ≡ [] ∷ []
-  one = leaf_left n ra rb ya yb (take 1555 w) w ready ∙ ap one_line (sym verdict ∙ not-false ok accepted)
+  one = leaf_left n ra rb ya yb (take 1555 w) w ready ∙ ap one_line (sym verdict ∙ accepted)
 
   pub not_over : r ≡ Over → ⊥
   not_over e = let h = over_of (table_left 0 n (take 1555 w) ra rb) r b.answer e in omega (arith, h, ap length one)
@@ -84,16 +84,16 @@ module _ (n at lo hi ya yb ra rb : ℕ) (ok : Bool) (w w' : List ℕ) (r : Built
       let g : w'' ≡ (take (3 * at) w ++ table_words 5 P) ++ tail =
       f ∙ ap₂ (λ (k : ℕ) (z : List ℕ). stamp_n (column_of 5) (word_of 5 lo hi) k at z) k q
       ∙ stamp_table 5 lo hi at t (take (3 * at) w) tail l ∙ sym (append_assoc (take (3 * at) w) (table_words 5 P) tail) in
-      let o : one_line ok ≡ t = ap one_line (not-false ok accepted) ∙ sym one in
+      let o : one_line ok ≡ t = ap one_line (accepted) ∙ sym one in
       let z : length (take (3 * at) w ++ table_words 5 P) ≡ 3 * (at + m) = length-append (take (3 * at) w) (table_words 5 P) ∙ omega (arith, l, table_length 5 P, length_put (lo to hi) t, h.0) in
       record {
         count = omega (arith, h.0, one_length ok, ap length o);
         held = ap (λ (z : List ℕ). take (3 * (at + m)) z) g ∙ take_at (take (3 * at) w ++ table_words 5 P) tail (3 * (at + m)) z ∙ ap (λ (u : Table). take (3 * at) w ++ table_words 5 (put_before (lo to hi) u)) (sym o);
       }
 
-pub run_dropped : (at lo hi : ℕ) (ok : Bool) (w : List ℕ) → not ok ≡ true → RunPut at lo hi ok w w at
+pub run_dropped : (at lo hi : ℕ) (ok : Bool) (w : List ℕ) → ok ≡ false → RunPut at lo hi ok w w at
 unfolding table_words put_before
-run_dropped at lo hi ok w y = rw (not-true ok y) (record { count = omega arith; held = sym (append-nil (take (3 * at) w)) })
+run_dropped at lo hi ok w y = rw (y) (record { count = omega arith; held = sym (append-nil (take (3 * at) w)) })
 
 -- ---- the loop over the cells: what is laid down so far
 pub record Scan (n at a b ya yb : ℕ) (we work : List ℕ) (x lo hi : ℕ) (ok : Bool) (end : ℕ) : Type 0 where

@@ -20,7 +20,7 @@ mod live;
 mod sections;
 pub mod table;
 
-#[derive(Drop)]
+#[derive(Clone, Copy)]
 pub enum Built {
     Lines(usize),
     Over,

@@ -42,7 +42,7 @@ pub fn none_accepts(ya: u64, yb: u64, a: u64, b: u64) -> bool
 }
 
 // Values, and the live rules that hold them: two sets, and two others that are known to have the same lines. Cells often alternate between a few sets.
-#[derive(Drop)]
+#[derive(Clone, Copy)]
 pub struct Run {
     pub low: u64,
     pub high: u64,
@@ -109,7 +109,7 @@ pub fn longer(run: Run, cell: Run) -> Run
 }
 
 // A run of the last dimension, and whether the first of the live rules that hold it accepts.
-#[derive(Drop)]
+#[derive(Clone, Copy)]
 pub struct Judged {
     pub low: u64,
     pub high: u64,

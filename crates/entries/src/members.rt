@@ -14,7 +14,7 @@ use values::strings::string_is;
 use values::walk::{first_field, inner, member_after, name_place, value_place};
 
 // Where the values of six members stand, and whether all members have one of their names.
-#[derive(Drop)]
+#[derive(Clone, Copy)]
 pub struct Six {
     pub first: Found,
     pub second: Found,
@@ -26,7 +26,7 @@ pub struct Six {
 }
 
 // Which of six names a member has.
-#[derive(Drop)]
+#[derive(Clone, Copy)]
 pub struct Tests {
     pub first: bool,
     pub second: bool,

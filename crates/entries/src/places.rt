@@ -7,7 +7,7 @@ use flows::Direction;
 use values::Found;
 
 // The members of an entry that are read, those of its `matches`, whether this has no others, and the members of `ipv4`.
-#[derive(Drop)]
+#[derive(Clone, Copy)]
 pub struct Parts {
     pub actions: Found,
     pub matches: Found,
@@ -20,7 +20,7 @@ pub struct Parts {
 }
 
 // The members of `ipv4` by side: the network and the name of the remote, and those of the device.
-#[derive(Drop)]
+#[derive(Clone, Copy)]
 pub struct Sides {
     pub network: Found,
     pub name: Found,

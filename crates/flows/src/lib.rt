@@ -1,41 +1,43 @@
 // What a flow is. The one table of a set of flows is mathematics: see specs/ and proofs/.
+#![tactic(auto)]
+
 ghost use Rattle.std.specs.Prelude.{◌≡◌};
 ghost use Rattle.flows.specs.Flow.{is_flow};
 ghost use Rattle.flows.specs.Numbers.{direction_number, opener_number, point_of, sides_of};
 
-#[derive(Drop)]
+#[derive(Clone, Copy)]
 pub enum Direction {
     FromDevice,
     ToDevice,
 }
 
-#[derive(Drop)]
+#[derive(Clone, Copy)]
 pub enum Opener {
     Device,
     Remote,
 }
 
-#[derive(Drop)]
+#[derive(Clone, Copy)]
 pub struct Protocol(pub u8);
 
-#[derive(Drop)]
+#[derive(Clone, Copy)]
 pub struct Address(pub u32);
 
 // Two ports that must not be taken for each other: only `sides_of` makes them of a packet's ports.
-#[derive(Drop)]
+#[derive(Clone, Copy)]
 pub struct RemotePort(pub u16);
 
-#[derive(Drop)]
+#[derive(Clone, Copy)]
 pub struct DevicePort(pub u16);
 
-#[derive(Drop)]
+#[derive(Clone, Copy)]
 pub struct Sides {
     pub remote: RemotePort,
     pub device: DevicePort,
 }
 
 // Six numbers that may be a flow. Direction and opener come as numbers, since they may be neither 0 nor 1.
-#[derive(Drop)]
+#[derive(Clone, Copy)]
 pub struct Numbers {
     pub direction: u8,
     pub protocol: Protocol,

@@ -55,10 +55,10 @@ goes_on h e = record { answer = h.answer ∙ e; held = h.held }
 
 -- ## a test that refuses, or not
 module _ {a p : Bool} (e : a ≡ p) where
-  pub stops_here : not a ≡ true → {r : Reason} (x : Answer) → Refused r ≡ cond (not p) (Refused r) x
+  pub stops_here : a ≡ false → {r : Reason} (x : Answer) → Refused r ≡ cond (not p) (Refused r) x
   stops_here n x = rw (← e, n)
 
-  pub passes : not a ≡ false → {y x : Answer} (z : Answer) → y ≡ x → y ≡ cond (not p) z x
+  pub passes : a ≡ true → {y x : Answer} (z : Answer) → y ≡ x → y ≡ cond (not p) z x
   passes n z h = rw (← e, n) h
 
 pub ruleset judging = (rules, refused_as, goes_on, stops_here, passes)
@@ -125,11 +125,11 @@ module _ (file site : List ℕ) {w w' : List ℕ} {t : Tally} (h : ReadIn site (
         ap₂ (λ (k : ℕ) (v : List ℕ). rules_of (k + 2) v) z h.words ∙ rules_held (tree_of 16 file) site w n (omega arith) in
         ap (λ (rs : List Rule). let_through rs p) q ∙ lets_rules (tree_of 16 file) site p (lines_few site site_sound) s
 
-    pub entries_pass : not t.known ≡ false → not t.sound ≡ false → t.count ≤ 64 → {r : Answer} {bytes : List ℕ} → Answered (by_length (table_of widths (let_through (rules_of (t.count + 2) w')))) (table_of widths (let_through (rules_of (t.count + 2) w'))) r bytes → Answered (by_entries (tree_of 16 file) (by_length (table_for file site))) (table_for file site) r bytes
+    pub entries_pass : t.known ≡ true → t.sound ≡ true → t.count ≤ 64 → {r : Answer} {bytes : List ℕ} → Answered (by_length (table_of widths (let_through (rules_of (t.count + 2) w')))) (table_of widths (let_through (rules_of (t.count + 2) w'))) r bytes → Answered (by_entries (tree_of 16 file) (by_length (table_for file site))) (table_for file site) r bytes
     unfolding by_entries table_for
     entries_pass x y z a =
-        let k : all_known (tree_of 16 file) ≡ true = sym told_known ∙ not-false t.known x in
-        let s : all_sound (tree_of 16 file) ≡ true = sym told_sound ∙ not-false t.sound y in
+        let k : all_known (tree_of 16 file) ≡ true = sym told_known ∙ x in
+        let s : all_sound (tree_of 16 file) ≡ true = sym told_sound ∙ y in
         let n : entries_read (tree_of 16 file) ≤ 64 = omega (arith, few_told z) in
         let q : table_of widths (let_through (rules_of (t.count + 2) w')) ≡ table_of widths (lets (tree_of 16 file) site) = same_table widths _ _ (λ p i. told_rules s z p) in
         goes_on (rw q at a) (rw (k, s, le-ltb 64 (entries_read (tree_of 16 file)) n))
@@ -164,23 +164,23 @@ unfolding sized
 no_size reply work n = rw (ne_eqb reply 36864 n)
 
 module _ (reply work : ℕ) {b : Bool} (e : b ≡ sized reply work) where
-  pub wrong_sizes : (file site : List ℕ) → not b ≡ true → Refused Buffers ≡ answer_of file site reply work
+  pub wrong_sizes : (file site : List ℕ) → b ≡ false → Refused Buffers ≡ answer_of file site reply work
   unfolding answer_of
-  wrong_sizes file site n = rw (← e, not-true b n)
+  wrong_sizes file site n = rw (← e, n)
 
-  module _ (n : not b ≡ false) where
+  module _ (n : b ≡ true) where
     pub reply_fits : reply ≡ 36864
     unfolding sized
-    reply_fits = eqb-true reply 36864 (and_left _ _ (sym e ∙ not-false b n))
+    reply_fits = eqb-true reply 36864 (and_left _ _ (sym e ∙ n))
 
     pub work_fits : work ≡ 16290
     unfolding sized
-    work_fits = eqb-true work 16290 (and_right (eqb reply 36864) _ (sym e ∙ not-false b n))
+    work_fits = eqb-true work 16290 (and_right (eqb reply 36864) _ (sym e ∙ n))
 
     module _ (file site : List ℕ) {j : Judged} (f : j ≡ judged site) where
       judged_site : by_site j (by_file file site) ≡ answer_of file site reply work
       unfolding answer_of
-      judged_site = rw (← e, not-false b n, f)
+      judged_site = rw (← e, n, f)
 
       pub site_long : j ≡ TooLong → Refused SiteTooLong ≡ answer_of file site reply work
       site_long g = ap (λ u. by_site u (by_file file site)) (sym g) ∙ judged_site

@@ -9,7 +9,7 @@ use stored::answer::Verdict;
 mod judging;
 
 // Why a build is refused: document 01's numbers 1 to 12, in their order.
-#[derive(Drop)]
+#[derive(Clone, Copy)]
 pub enum Reason {
     Buffers,
     SiteTooLong,
@@ -25,7 +25,7 @@ pub enum Reason {
     TooManyLines,
 }
 
-#[derive(Drop)]
+#[derive(Clone, Copy)]
 pub enum Answer {
     Taken(usize),
     Refused(Reason),

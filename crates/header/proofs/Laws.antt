@@ -101,15 +101,15 @@ module _ (j : Json) (d : ℕ) (s : List ℕ) {r : Found} (e : items j ≡ items_
     not_null j no_more n = sym n
     not_null j (element k es) n = refl
 
-    pub nulls_not : not x ≡ true → false ≡ is_null_array j
-    nulls_not n = not_null (tree_at d' s i) (elements_after d' s k) (sym u ∙ not-true x n) ∙ sym one
+    pub nulls_not : x ≡ false → false ≡ is_null_array j
+    nulls_not n = not_null (tree_at d' s i) (elements_after d' s k) (sym u ∙ n) ∙ sym one
 
-    module _ (y : not x ≡ false) {m : Next} (v : m ≡ element_at (value_at d' s) s k) where
+    module _ (y : x ≡ true) {m : Next} (v : m ≡ element_at (value_at d' s) s k) where
       pub nulls_done : {l : ℕ} → m ≡ Done l → true ≡ is_null_array j
-      nulls_done w = sym (one ∙ rw (element_after_done d' s k v w) (sym u ∙ not-false x y))
+      nulls_done w = sym (one ∙ rw (element_after_done d' s k v w) (sym u ∙ y))
 
       pub nulls_wrong : {l : ℕ} → m ≡ Wrong l → true ≡ is_null_array j
-      nulls_wrong w = sym (one ∙ rw (element_after_wrong d' s k v w) (sym u ∙ not-false x y))
+      nulls_wrong w = sym (one ∙ rw (element_after_wrong d' s k v w) (sym u ∙ y))
 
       pub nulls_more : {l : ℕ} → m ≡ More l → false ≡ is_null_array j
       nulls_more {l} w = sym (one ∙ rw (element_after_more d' s k v w, elements_turn d' s l))
@@ -318,18 +318,18 @@ module _ (b before₀ buf : List ℕ) (r : Copied) (c : CopiedTo b before₀ buf
   net_none z = rw (← same_net, z)
 
   module _ {low high after : ℕ} {given : Bool} (z : x ≡ Net low high given after) where
-    pub net_bare : not given ≡ true → NoNet ≡ net_in b
+    pub net_bare : given ≡ false → NoNet ≡ net_in b
     unfolding net_in is_network
-    net_bare g = rw (← same_net, z, not-true given g)
+    net_bare g = rw (← same_net, z, g)
 
-    module _ (g : not given ≡ false) where
+    module _ (g : given ≡ true) where
       pub net_rest : (after ≡ n → ⊥) → NoNet ≡ net_in b
       unfolding net_in is_network
-      net_rest f = rw (← same_net, z, not-false given g, ne_eqb after (length b) (λ h. f (h ∙ (copied_bytes b before₀ buf r c q).1)))
+      net_rest f = rw (← same_net, z, g, ne_eqb after (length b) (λ h. f (h ∙ (copied_bytes b before₀ buf r c q).1)))
 
       pub net_whole : after ≡ n → Net low high given after ≡ net_in b
       unfolding net_in is_network
-      net_whole f = rw (← same_net, z, not-false given g, eq-eqb after (length b) (f ∙ sym (copied_bytes b before₀ buf r c q).1))
+      net_whole f = rw (← same_net, z, g, eq-eqb after (length b) (f ∙ sym (copied_bytes b before₀ buf r c q).1))
 
 module _ (b : List ℕ) {x : Block} (e : x ≡ net_in b) where
   pub is_net_none : x ≡ NoNet → false ≡ is_network b
@@ -353,28 +353,28 @@ pub ruleset copied = (rules, copied_in, copied_count, url_copied, url_whole, net
 
 -- ## the header
 module _ (mud : Json) {a : Bool} (e : a ≡ must (lookup (ascii "mud-version") mud) (obeys (Integer 1 1))) where
-  pub header_version : not a ≡ true → false ≡ header_ok mud
+  pub header_version : a ≡ false → false ≡ header_ok mud
   unfolding header_ok
-  header_version n = rw (← e, not-true a n)
+  header_version n = rw (← e, n)
 
-  module _ (y : not a ≡ false) {b : Bool} (f : b ≡ must (lookup (ascii "mud-url") mud) (obeys (Spelt Url))) where
-    pub header_url : not b ≡ true → false ≡ header_ok mud
+  module _ (y : a ≡ true) {b : Bool} (f : b ≡ must (lookup (ascii "mud-url") mud) (obeys (Spelt Url))) where
+    pub header_url : b ≡ false → false ≡ header_ok mud
     unfolding header_ok
-    header_url n = rw (← e, not-false a y, ← f, not-true b n)
+    header_url n = rw (← e, y, ← f, n)
 
-    module _ (z : not b ≡ false) {c : Bool} (g : c ≡ must (lookup (ascii "last-update") mud) (obeys Text)) where
-      pub header_update : not c ≡ true → false ≡ header_ok mud
+    module _ (z : b ≡ true) {c : Bool} (g : c ≡ must (lookup (ascii "last-update") mud) (obeys Text)) where
+      pub header_update : c ≡ false → false ≡ header_ok mud
       unfolding header_ok
-      header_update n = rw (← e, not-false a y, ← f, not-false b z, ← g, not-true c n)
+      header_update n = rw (← e, y, ← f, z, ← g, n)
 
-      module _ (w : not c ≡ false) {d : Bool} (h : d ≡ must (lookup (ascii "is-supported") mud) (obeys Boolean)) where
-        pub header_supported : not d ≡ true → false ≡ header_ok mud
+      module _ (w : c ≡ true) {d : Bool} (h : d ≡ must (lookup (ascii "is-supported") mud) (obeys Boolean)) where
+        pub header_supported : d ≡ false → false ≡ header_ok mud
         unfolding header_ok
-        header_supported n = rw (← e, not-false a y, ← f, not-false b z, ← g, not-false c w, ← h, not-true d n)
+        header_supported n = rw (← e, y, ← f, z, ← g, w, ← h, n)
 
-        pub header_validity : not d ≡ false → {r : Bool} → r ≡ may (lookup (ascii "cache-validity") mud) (obeys (Integer 1 168)) → r ≡ header_ok mud
+        pub header_validity : d ≡ true → {r : Bool} → r ≡ may (lookup (ascii "cache-validity") mud) (obeys (Integer 1 168)) → r ≡ header_ok mud
         unfolding header_ok
-        header_validity n q = rw (← e, not-false a y, ← f, not-false b z, ← g, not-false c w, ← h, not-false d n) q
+        header_validity n q = rw (← e, y, ← f, z, ← g, w, ← h, n) q
 
 module _ (s : List ℕ) {i : ℕ} (g : i ≡ span_at is_space s 0) {r : Found} (e : lookup (ascii "ietf-mud:mud") (tree_at 16 s i) ≡ seen (tree_at 15 s) r) where
   pub outermost_none : r ≡ Missing → false ≡ outermost_ok (tree_of 16 s)

@@ -14,7 +14,7 @@ use values::walk::{first_item, inner, member, next_element};
 use values::{Found, plain};
 
 // The form of a string.
-#[derive(Drop)]
+#[derive(Clone, Copy)]
 pub enum Form {
     Url,
     Network,
@@ -23,7 +23,7 @@ pub enum Form {
     Initiator,
 }
 
-#[derive(Drop)]
+#[derive(Clone, Copy)]
 pub enum Asked {
     Text,
     Boolean,

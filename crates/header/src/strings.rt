@@ -10,7 +10,7 @@ use values::Head;
 use values::decode::{first, piece, rest};
 use values::strings::string_is;
 
-#[derive(Drop)]
+#[derive(Clone, Copy)]
 enum Copied {
     Bytes(usize),
     TooLong,

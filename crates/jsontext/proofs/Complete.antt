@@ -15,7 +15,7 @@ use Rattle.text.proofs.ByteLaws.{between_is}
 use Rattle.jsontext.specs.declared.Read.{Read}
 use Rattle.jsontext.specs.declared.Read.TheVariants.{End, Bad}
 use Rattle.jsontext.specs.declared.Start.{Start}
-use Rattle.text.specs.Bytes.{between, is_digit_lem}
+use Rattle.text.specs.Bytes.{between, is_digit}
 use Rattle.jsontext.specs.Reading.{is, then, or_else, into, is_space, is_hex, is_escape, is_plain, span, span_at, skip_at, one_at, times_at, some_at, token_at, word_at, run, tails_at, wide_at, escape_at, char_at, quote_or_char_at, string_at, minus_at, sign_at, int_at, fraction_at, is_e, exponent_at, number_at, key_at, start_of, next_at, element_at, member_at, array_at, object_at, by_start, value_at, stop, text_of}
 use Rattle.jsontext.specs.Rfc8259.{Language, word, Byte, Range, within, ◌·◌, pair, ◌∣◌, left, right, Star, none, more, Opt, Times, Ws, Token, Digit, HexDig, Minus, Int, Frac, Exp, Number, Tail, Wide, Escaped, Char, String, Listed, Member, Literal, Value, Text}
 use Rattle.jsontext.proofs.Sound.{Seg, here, byte, seg_length, cons_drop, wide_first, char_first}
@@ -94,7 +94,7 @@ pub ws_covers : Covers is_space (Byte 0x20 ∣ Byte 0x09 ∣ Byte 0x0A ∣ Byte 
 unfolding is_space
 ws_covers = either_covers (eq_covers 32 refl) (either_covers (eq_covers 9 refl) (either_covers (eq_covers 10 refl) (eq_covers 13 refl)))
 
-pub digit_covers : Covers is_digit_lem Digit
+pub digit_covers : Covers is_digit Digit
 unfolding between
 digit_covers = range_covers 48 57
 
@@ -137,7 +137,7 @@ module _ {p : ℕ → Bool} {G : Language} (c : Covers p G) where
   pub times_takes : {s v : List ℕ} {i j : ℕ} (n : ℕ) → Times n G v → Seg s i v j → times_at p n s i ≡ End j
   unfolding times_at
   times_takes zero word here = refl
-  times_takes (suc n) (pair {u = u} g gs) x = let t = seg_split u x in rw (byte_takes g t.1, times_takes n gs t.2)
+  times_takes {v = w} (suc n) (pair {u = u} {v = v} g gs) x = let t = seg_split u x in rw (byte_takes g t.1, times_takes {v = v} n gs t.2)
 
 -- no byte is 0
 abbrev solid : List ℕ → Bool
@@ -199,7 +199,7 @@ text_takes {s} (pair {u = u} cs word) x = let t = seg_split u x in let h = seg_i
 -- numbers
 -- a byte that does not go on with a number
 pub record Ends (b : ℕ) : Type 0 where
-  pub digit : is_digit_lem b ≡ false
+  pub digit : is_digit b ≡ false
   pub dot : is 46 b ≡ false
   letter : is_e b ≡ false
 
@@ -214,7 +214,7 @@ any_takes {s} {i = i} (left word) here h = rw (ne_is 43 (get_or s i 0) (λ q. om
 any_takes (right (left word)) (byte h e here) n = rw e
 any_takes (right (right word)) (byte h e here) n = rw e
 
-pub int_takes : {s v : List ℕ} {i j : ℕ} → Int v → Seg s i v j → is_digit_lem (get_or s j 0) ≡ false → int_at s i ≡ End j
+pub int_takes : {s v : List ℕ} {i j : ℕ} → Int v → Seg s i v j → is_digit (get_or s j 0) ≡ false → int_at s i ≡ End j
 unfolding int_at
 int_takes (left word) (byte h e here) n = rw e
 int_takes {s} {i = i} (right (pair (within l r) ds)) (byte h e x) n =
@@ -227,12 +227,12 @@ int_first (right (pair (within l r) ds)) (byte h e x) = omega arith
 pub digits_first : {s v : List ℕ} {i j : ℕ} → (Digit · Star Digit) v → Seg s i v j → 45 < get_or s i 0
 digits_first (pair (within l r) ds) (byte h e x) = omega arith
 
-pub fraction_takes : {s v : List ℕ} {i j : ℕ} → Opt Frac v → Seg s i v j → is_digit_lem (get_or s j 0) ≡ false → is 46 (get_or s j 0) ≡ false → fraction_at s i ≡ End j
+pub fraction_takes : {s v : List ℕ} {i j : ℕ} → Opt Frac v → Seg s i v j → is_digit (get_or s j 0) ≡ false → is 46 (get_or s j 0) ≡ false → fraction_at s i ≡ End j
 unfolding fraction_at
 fraction_takes (left word) here n d = rw d
 fraction_takes (right (pair word ds)) (byte h e x) n d = rw e (some_takes digit_covers digit_covers ds x n)
 
-pub fraction_first : {s v : List ℕ} {i j : ℕ} → Opt Frac v → Seg s i v j → is_digit_lem (get_or s j 0) ≡ false → is_digit_lem (get_or s i 0) ≡ false
+pub fraction_first : {s v : List ℕ} {i j : ℕ} → Opt Frac v → Seg s i v j → is_digit (get_or s j 0) ≡ false → is_digit (get_or s i 0) ≡ false
 unfolding between
 fraction_first (left word) here n = n
 fraction_first (right (pair word ds)) (byte h e x) n = rw e
@@ -246,7 +246,7 @@ exponent_takes {s} (right (pair {u = u} c (pair {u = w} sg ds))) x n =
     let y = seg_split w t.2 in
     rw (r.passes, ← r.next, any_takes sg y.1 (digits_first ds y.2)) (some_takes digit_covers digit_covers ds y.2 n.digit)
 
-pub exponent_first : {s v : List ℕ} {i j : ℕ} → Opt Exp v → Seg s i v j → Ends (get_or s j 0) → (is_digit_lem (get_or s i 0) ≡ false) × (is 46 (get_or s i 0) ≡ false)
+pub exponent_first : {s v : List ℕ} {i j : ℕ} → Opt Exp v → Seg s i v j → Ends (get_or s j 0) → (is_digit (get_or s i 0) ≡ false) × (is 46 (get_or s i 0) ≡ false)
 unfolding between
 exponent_first (left word) here n = (n.digit, n.dot)
 exponent_first (right (pair (left word) t)) (byte h e x) n = (rw e, rw e)
@@ -371,7 +371,7 @@ member_takes s rd tk i i' j v (pair {u = u} (pair word t) (pair {u = w} tok g)) 
     record { place = r.place; ended = rw a r.ended; rest = r.rest }
 
 -- values
-pub is_digit_lem : (b : ℕ) → 48 ≤ b → b ≤ 57 → is_digit_lem b ≡ true
+pub is_digit_lem : (b : ℕ) → 48 ≤ b → b ≤ 57 → is_digit b ≡ true
 unfolding between
 is_digit_lem b h l = between_is 48 57 b h l
 

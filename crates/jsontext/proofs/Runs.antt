@@ -45,11 +45,11 @@ module _ (p : ℕ → Bool) (s : List ℕ) (i : ℕ) {w : ℕ} (inv : w ≡ span
   span_out l = sym (inv ∙ span_end p s i l)
 
   module _ (l : i < length s) {t : Bool} (e : t ≡ p (get_or s i 0)) where
-    pub span_not : not t ≡ true → i ≡ w
-    span_not q = sym (inv ∙ span_stop p s i (sym e ∙ not-true t q))
+    pub span_not : t ≡ false → i ≡ w
+    span_not q = sym (inv ∙ span_stop p s i (sym e ∙ q))
 
-    pub span_on : not t ≡ false → w ≡ span_at p s (i + 1)
-    span_on q = inv ∙ span_more p s i l (sym e ∙ not-false t q)
+    pub span_on : t ≡ true → w ≡ span_at p s (i + 1)
+    span_on q = inv ∙ span_more p s i l (sym e ∙ q)
 
 -- so many bytes of a class
 pub times_done : (p : ℕ → Bool) (s : List ℕ) (n i : ℕ) {w : Read} → w ≡ times_at p n s i → n ≤ 0 → End i ≡ w
@@ -57,15 +57,15 @@ unfolding times_at
 times_done p s zero i inv h = sym inv
 times_done p s (suc n) i inv h = absurd (omega arith)
 
-pub times_not : (p : ℕ → Bool) (s : List ℕ) (n i : ℕ) {w : Read} → w ≡ times_at p n s i → 0 < n → {b : ℕ} → b ≡ get_or s i 0 → {t : Bool} → t ≡ p b → not t ≡ true → Bad i ≡ w
+pub times_not : (p : ℕ → Bool) (s : List ℕ) (n i : ℕ) {w : Read} → w ≡ times_at p n s i → 0 < n → {b : ℕ} → b ≡ get_or s i 0 → {t : Bool} → t ≡ p b → t ≡ false → Bad i ≡ w
 unfolding times_at one_at
 times_not p s zero i inv h e f q = absurd (omega arith)
-times_not p s (suc n) i inv h e {t} f q = sym (rw (← e, ← f, not-true t q) at inv)
+times_not p s (suc n) i inv h e {t} f q = sym (rw (← e, ← f, q) at inv)
 
-pub times_on : (p : ℕ → Bool) (s : List ℕ) (n i : ℕ) {w : Read} → w ≡ times_at p n s i → 0 < n → {b : ℕ} → b ≡ get_or s i 0 → {t : Bool} → t ≡ p b → not t ≡ false → w ≡ times_at p (n - 1) s (i + 1)
+pub times_on : (p : ℕ → Bool) (s : List ℕ) (n i : ℕ) {w : Read} → w ≡ times_at p n s i → 0 < n → {b : ℕ} → b ≡ get_or s i 0 → {t : Bool} → t ≡ p b → t ≡ true → w ≡ times_at p (n - 1) s (i + 1)
 unfolding times_at one_at
 times_on p s zero i inv h e f q = absurd (omega arith)
-times_on p s (suc n) i inv h e {t} f q = rw sub-one (rw (← e, ← f, not-false t q) at inv)
+times_on p s (suc n) i inv h e {t} f q = rw sub-one (rw (← e, ← f, q) at inv)
 
 -- fixed bytes
 module _ (v s : List ℕ) (n i : ℕ) {w : Read} (inv : w ≡ word_at (drop n v) s i) where

@@ -204,31 +204,31 @@ module _ (d : Direction) (s : List ℕ) (mud : ℕ) (r : Found) where
     policy_some q t h = rw (e, q) h
 
 module _ (d : Direction) (s : List ℕ) (file mud : ℕ) {a : Bool} (e : a ≡ policy_ok d (tree_at 15 s mud)) where
-  pub direction_policy : not a ≡ true → false ≡ direction_ok d (tree_at 16 s file) (tree_at 15 s mud)
+  pub direction_policy : a ≡ false → false ≡ direction_ok d (tree_at 16 s file) (tree_at 15 s mud)
   unfolding direction_ok
-  direction_policy n = rw (← e, not-true a n)
+  direction_policy n = rw (← e, n)
 
-  module _ (y : not a ≡ false) {r : Found} (f : policy_lists d (tree_at 15 s mud) ≡ items_from 11 s r) where
+  module _ (y : a ≡ true) {r : Found} (f : policy_lists d (tree_at 15 s mud) ≡ items_from 11 s r) where
     pub direction_none : r ≡ Missing → true ≡ direction_ok d (tree_at 16 s file) (tree_at 15 s mud)
     unfolding direction_ok all
-    direction_none q = rw (← e, not-false a y, f, q)
+    direction_none q = rw (← e, y, f, q)
 
     pub direction_some : {p : ℕ} → r ≡ At p → (l : Found) → lists_of (tree_at 16 s file) ≡ items_from 13 s l → {b : Bool} → b ≡ all (named_ok (items_from 13 s l)) (elements_from 11 s p) → b ≡ direction_ok d (tree_at 16 s file) (tree_at 15 s mud)
     unfolding direction_ok
-    direction_some q l g h = rw (← e, not-false a y, f, q, g) h
+    direction_some q l g h = rw (← e, y, f, q, g) h
 
 module _ (s : List ℕ) {i : ℕ} (g : i ≡ span_at is_space s 0) {a : Bool} (e : a ≡ nested_ok (ascii "ietf-access-control-list:acls") (ascii "acl") (tree_at 16 s i)) where
-  pub policies_lists : not a ≡ true → false ≡ policies_ok (tree_of 16 s)
+  pub policies_lists : a ≡ false → false ≡ policies_ok (tree_of 16 s)
   unfolding policies_ok tree_of lists_ok
-  policies_lists n = rw (← g, ← e, not-true a n)
+  policies_lists n = rw (← g, ← e, n)
 
-  module _ (y : not a ≡ false) {r : Found} (f : lookup (ascii "ietf-mud:mud") (tree_at 16 s i) ≡ seen (tree_at 15 s) r) where
+  module _ (y : a ≡ true) {r : Found} (f : lookup (ascii "ietf-mud:mud") (tree_at 16 s i) ≡ seen (tree_at 15 s) r) where
     pub policies_none : r ≡ Missing → false ≡ policies_ok (tree_of 16 s)
     unfolding policies_ok tree_of lists_ok
-    policies_none q = rw (← g, ← e, not-false a y, f, q)
+    policies_none q = rw (← g, ← e, y, f, q)
 
     pub policies_some : {p : ℕ} → r ≡ At p → {b : Bool} → b ≡ both_ok (tree_at 16 s i) (tree_at 15 s p) → b ≡ policies_ok (tree_of 16 s)
     unfolding policies_ok tree_of lists_ok
-    policies_some q h = rw (← g, ← e, not-false a y, f, q) h
+    policies_some q h = rw (← g, ← e, y, f, q) h
 
 pub ruleset listing = (chained, past_is, may_none, may_some, is_named_none, is_named_other, is_named_is, type_none, type_other, type_is, list_none, list_some, lists_none, lists_some, list_ipv4, list_ipv6, nested_outer, nested_inner, nested_items, policy_from, policy_to, policy_none, policy_some, direction_policy, direction_none, direction_some, policies_lists, policies_none, policies_some)

@@ -15,7 +15,7 @@ use values::walk::{member, next_element};
 use values::{Entry, Found};
 
 // Up to where the names stand; without room for all there are none.
-#[derive(Drop)]
+#[derive(Clone, Copy)]
 pub enum Index {
     Upto(usize),
     Without,

@@ -58,7 +58,7 @@ fn is_again(s: &[u8], at: usize, depth: usize, i: usize, r: Entry) -> bool
 }
 
 // An element's name beside those of the elements before it: it stands twice, or they are so many with it.
-#[derive(Drop)]
+#[derive(Clone, Copy)]
 pub enum Beside {
     Twice,
     Once(usize),

@@ -42,14 +42,14 @@ pub no_size : (work n : ℕ) → (work ≡ 16290 → ⊥) → false ≡ sized wo
 unfolding sized
 no_size work n h = rw (ne_eqb work 16290 h)
 
-module _ (work n : ℕ) {b : Bool} (e : b ≡ sized work n) (h : not b ≡ false) where
+module _ (work n : ℕ) {b : Bool} (e : b ≡ sized work n) (h : b ≡ true) where
   pub work_fits : work ≡ 16290
   unfolding sized
-  work_fits = eqb-true work 16290 (and_left _ _ (sym e ∙ not-false b h))
+  work_fits = eqb-true work 16290 (and_left _ _ (sym e ∙ h))
 
   pub rules_fit : n ≤ 66
   unfolding sized
-  rules_fit = leb-true n 66 (and_right (eqb work 16290) _ (sym e ∙ not-false b h))
+  rules_fit = leb-true n 66 (and_right (eqb work 16290) _ (sym e ∙ h))
 
 -- ## what was built
 module _ {t : Table} {w : List ℕ} {r : Built} (b : BuiltIn t w r) where
@@ -84,18 +84,18 @@ module _ {t : Table} {w : List ℕ} {r : Built} (a : BuiltIn t w r) where
   over_capped q = rw (over_few a q)
 
 module _ (work n : ℕ) {b : Bool} (e : b ≡ sized work n) where
-  pub unsized_number : (t : Table) → not b ≡ true → 1000000 ≡ lines_number work n t
+  pub unsized_number : (t : Table) → b ≡ false → 1000000 ≡ lines_number work n t
   unfolding lines_number
-  unsized_number t h = rw (← e, not-true b h)
+  unsized_number t h = rw (← e, h)
 
-  module _ (h : not b ≡ false) {t : Table} {w : List ℕ} {r : Built} (a : BuiltIn t w r) where
+  module _ (h : b ≡ true) {t : Table} {w : List ℕ} {r : Built} (a : BuiltIn t w r) where
     pub lines_number_lem : {k : ℕ} → r ≡ Lines k → k ≡ lines_number work n t
     unfolding lines_number
-    lines_number_lem q = rw (← e, not-false b h) (lines_capped a q)
+    lines_number_lem q = rw (← e, h) (lines_capped a q)
 
     pub over_number : r ≡ Over → 513 ≡ lines_number work n t
     unfolding lines_number
-    over_number q = rw (← e, not-false b h) (over_capped a q)
+    over_number q = rw (← e, h) (over_capped a q)
 
 -- ## the reply
 pub over_written : {t : Table} {w : List ℕ} {r : Built} → BuiltIn t w r → r ≡ Over → {reply : List ℕ} → Written t reply 513 reply
@@ -114,10 +114,10 @@ pub wrong_reply : (reply work n : ℕ) → (reply ≡ 36864 → ⊥) → false �
 unfolding all_sized
 wrong_reply reply work n h = rw (ne_eqb reply 36864 h)
 
-module _ (reply work n : ℕ) {b : Bool} (e : b ≡ all_sized reply work n) (h : not b ≡ false) where
+module _ (reply work n : ℕ) {b : Bool} (e : b ≡ all_sized reply work n) (h : b ≡ true) where
   both_sized : (eqb reply 36864 && sized work n) ≡ true
   unfolding all_sized
-  both_sized = sym e ∙ not-false b h
+  both_sized = sym e ∙ h
 
   pub reply_fits : reply ≡ 36864
   reply_fits = eqb-true reply 36864 (and_left _ _ both_sized)
@@ -129,10 +129,10 @@ module _ (reply work n : ℕ) {b : Bool} (e : b ≡ all_sized reply work n) (h :
   its_rules_fit = rules_fit work n {b = true} (sym (and_right (eqb reply 36864) _ both_sized)) refl
 
 module _ (work n : ℕ) (t : Table) (reply : List ℕ) {b : Bool} (e : b ≡ all_sized (length reply) work n) where
-  pub none_replied : not b ≡ true → Replied work n t reply 1000000 reply
-  none_replied h = record { number = rw (← e, not-true b h); bytes = rw (← e, not-true b h) }
+  pub none_replied : b ≡ false → Replied work n t reply 1000000 reply
+  none_replied h = record { number = rw (← e, h); bytes = rw (← e, h) }
 
-  pub replied : not b ≡ false → {r : ℕ} {reply' : List ℕ} → Written t reply r reply' → Replied work n t reply r reply'
-  replied h w = record { number = rw (← e, not-false b h) w.number; bytes = rw (← e, not-false b h) w.bytes }
+  pub replied : b ≡ true → {r : ℕ} {reply' : List ℕ} → Written t reply r reply' → Replied work n t reply r reply'
+  replied h w = record { number = rw (← e, h) w.number; bytes = rw (← e, h) w.bytes }
 
 pub ruleset measuring = (rules, first_size, no_size, work_fits, rules_fit, unsized_number, lines_number_lem, over_number, right_reply, wrong_reply, text_taken, text_refused)

@@ -142,14 +142,14 @@ pub record Masking (named : SiteLine → Bool) (site : List ℕ) (j m : ℕ) : T
   pub whole : named_mask named site ≡ m + 2 ^ j * mask_of (map named (drop j (lines site 0)))
 
 module _ (on : Bool) (j : ℕ) where
-  pub bit_off : not on ≡ true → 0 ≡ cond on (2 ^ j) 0
-  bit_off n = rw (not-true on n)
+  pub bit_off : on ≡ false → 0 ≡ cond on (2 ^ j) 0
+  bit_off n = rw (n)
 
-  pub bit_on : not on ≡ false → j < 64 → 1 * 2 ^ j % 18446744073709551616 ≡ cond on (2 ^ j) 0
+  pub bit_on : on ≡ true → j < 64 → 1 * 2 ^ j % 18446744073709551616 ≡ cond on (2 ^ j) 0
   bit_on n h =
       let p : 2 ^ j ≤ 9223372036854775808 = pow-le-pow_right (omega arith) {i = j} {j = 63} (omega arith) in
       let s : 2 ^ j < 18446744073709551616 = omega arith in
-      rw (not-false on n, one-mul (2 ^ j)) (mod-eq_of_lt s)
+      rw (n, one-mul (2 ^ j)) (mod-eq_of_lt s)
 
 pub masking_start : (named : SiteLine → Bool) (site : List ℕ) → Masking named site 0 0
 unfolding named_mask

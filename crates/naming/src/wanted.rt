@@ -14,7 +14,7 @@ use values::{Head, Piece};
 
 // By a string of the file (the place of its first character): a host, a class, a thing by its model or by its maker. By the file's
 // URL: its own controllers, and things of the same maker. By nothing: local networks. By a text that is the name itself: a class.
-#[derive(Drop)]
+#[derive(Clone, Copy)]
 pub enum Wanted {
     Host(usize),
     Class(usize),

@@ -8,7 +8,7 @@ use jsontext::space::skip;
 use values::Found;
 
 // The file, and where one stands in it.
-#[derive(Drop)]
+#[derive(Clone, Copy)]
 pub struct Reader<'a> {
     pub file: &'a [u8],
     pub at: usize,

@@ -136,18 +136,18 @@ module _ (d : Direction) (site url : List ℕ) where
     named_none q = none_walked (entries_in (list_named lists (tree_at 11 s n))) t w (rw (e, q))
 
     module _ {l : ℕ} (q : f ≡ At l) {b : Bool} (g : b ≡ has_type (ascii "ipv4-acl-type") (tree_at 13 s l)) where
-      pub named_other : not b ≡ true → Walked d site url (entries_in (list_named lists (tree_at 11 s n))) t w t w
+      pub named_other : b ≡ false → Walked d site url (entries_in (list_named lists (tree_at 11 s n))) t w t w
       unfolding list_entries
-      named_other y = none_walked (entries_in (list_named lists (tree_at 11 s n))) t w (rw (e, q, ← g, not-true b y))
+      named_other y = none_walked (entries_in (list_named lists (tree_at 11 s n))) t w (rw (e, q, ← g, y))
 
-      module _ (y : not b ≡ false) {h : Found} (i : nested (ascii "aces") (ascii "ace") (tree_at 13 s l) ≡ items_from 10 s h) where
+      module _ (y : b ≡ true) {h : Found} (i : nested (ascii "aces") (ascii "ace") (tree_at 13 s l) ≡ items_from 10 s h) where
         pub named_empty : h ≡ Missing → Walked d site url (entries_in (list_named lists (tree_at 11 s n))) t w t w
         unfolding list_entries
-        named_empty u = none_walked (entries_in (list_named lists (tree_at 11 s n))) t w (rw (e, q, ← g, not-false b y, i, u))
+        named_empty u = none_walked (entries_in (list_named lists (tree_at 11 s n))) t w (rw (e, q, ← g, y, i, u))
 
         pub named_some : {k : ℕ} → h ≡ At k → {r : Tally} {m : List ℕ} → Walked d site url (to_list (elements_from 10 s k)) t w r m → Walked d site url (entries_in (list_named lists (tree_at 11 s n))) t w r m
         unfolding list_entries
-        named_some {k} u a = same_walked (entries_in (list_named lists (tree_at 11 s n))) (to_list (elements_from 10 s k)) (rw (e, q, ← g, not-false b y, i, u)) a
+        named_some {k} u a = same_walked (entries_in (list_named lists (tree_at 11 s n))) (to_list (elements_from 10 s k)) (rw (e, q, ← g, y, i, u)) a
 
   -- ## a direction
   module _ (s : List ℕ) (mud : ℕ) (t : Tally) (w : List ℕ) {f : Found} (e : policy_lists d (tree_at 15 s mud) ≡ items_from 11 s f) where

@@ -28,7 +28,7 @@ use values::strings::string_place;
 use values::walk::{member, next_element};
 
 // What is known of the entries read so far; the count is at most 65, which is too many.
-#[derive(Drop)]
+#[derive(Clone, Copy)]
 pub struct Tally {
     pub known: bool,
     pub sound: bool,

@@ -15,7 +15,7 @@ use values::strings::string_is;
 use values::{Count, Found};
 
 // A range of numbers, both ends in it.
-#[derive(Drop)]
+#[derive(Clone, Copy)]
 pub struct Between {
     pub low: u32,
     pub high: u32,

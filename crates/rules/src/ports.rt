@@ -17,7 +17,7 @@ use values::strings::string_is;
 use values::{Count, Found};
 
 // Two ranges, one of which must hold the port.
-#[derive(Drop)]
+#[derive(Clone, Copy)]
 pub struct Ports {
     pub low: u16,
     pub high: u16,

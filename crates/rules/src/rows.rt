@@ -20,14 +20,14 @@ use values::strings::string_is;
 use values::walk::member;
 
 // Whose ports they are.
-#[derive(Drop)]
+#[derive(Clone, Copy)]
 pub struct PortSides {
     pub remote: Ports,
     pub device: Ports,
 }
 
 // A range or two for each dimension.
-#[derive(Drop)]
+#[derive(Clone, Copy)]
 pub struct Row {
     pub accepts: bool,
     pub direction: Between,

@@ -41,13 +41,13 @@ module _ (u : List ℕ) (i : ℕ) where
   printable_end e h = sym (e ∙ rw (drop_of_length-le u h))
 
   module _ (h : i < length u) (b : Bool) (t : b ≡ between 0x21 0x7E (get_or u i 0)) where
-    pub printable_not : printable u ≡ printable (drop i u) → not b ≡ true → false ≡ printable u
+    pub printable_not : printable u ≡ printable (drop i u) → b ≡ false → false ≡ printable u
     unfolding printable
-    printable_not e n = sym (e ∙ rw (drop-cons u i 0 h, ← t, not-true b n))
+    printable_not e n = sym (e ∙ rw (drop-cons u i 0 h, ← t, n))
 
-    pub printable_more : printable u ≡ printable (drop i u) → not b ≡ false → printable u ≡ printable (drop (i + 1) u)
+    pub printable_more : printable u ≡ printable (drop i u) → b ≡ true → printable u ≡ printable (drop (i + 1) u)
     unfolding printable
-    printable_more e n = e ∙ rw (drop-cons u i 0 h, ← t, not-false b n, add-one i)
+    printable_more e n = e ∙ rw (drop-cons u i 0 h, ← t, n, add-one i)
 
 pub ends_slash : (b : ℕ) → b ≡ 0x2F → true ≡ ends_authority b
 unfolding ends_authority
@@ -90,18 +90,18 @@ module _ (u : List ℕ) where
   url_long h = rw (lt-leb (length u) 255 h)
 
   module _ (l : length u ≤ 255) (a : Bool) (p : a ≡ printable u) where
-    pub url_unprintable : not a ≡ true → false ≡ is_mud_url u
+    pub url_unprintable : a ≡ false → false ≡ is_mud_url u
     unfolding is_mud_url
-    url_unprintable n = rw (le-leb (length u) 255 l, ← p, not-true a n)
+    url_unprintable n = rw (le-leb (length u) 255 l, ← p, n)
 
-    module _ (y : not a ≡ false) (b : Bool) (q : b ≡ has_at u 0 (ascii "https://")) where
-      pub url_scheme : not b ≡ true → false ≡ is_mud_url u
+    module _ (y : a ≡ true) (b : Bool) (q : b ≡ has_at u 0 (ascii "https://")) where
+      pub url_scheme : b ≡ false → false ≡ is_mud_url u
       unfolding is_mud_url has_at
-      url_scheme n = rw (le-leb (length u) 255 l, ← p, not-false a y, ← q, not-true b n)
+      url_scheme n = rw (le-leb (length u) 255 l, ← p, y, ← q, n)
 
-      pub url_authority : not b ≡ false → (k : ℕ) → k ≡ length (authority_of u) → ltb 0 k ≡ is_mud_url u
+      pub url_authority : b ≡ true → (k : ℕ) → k ≡ length (authority_of u) → ltb 0 k ≡ is_mud_url u
       unfolding is_mud_url has_at
-      url_authority n k e = rw (le-leb (length u) 255 l, ← p, not-false a y, ← q, not-false b n, e)
+      url_authority n k e = rw (le-leb (length u) 255 l, ← p, y, ← q, n, e)
 
 -- ## lines
 pub word_room : (w s : List ℕ) (at : ℕ) (b : Bool) → b ≡ word_at w s at → b ≡ true → at + length w < length s
@@ -157,13 +157,13 @@ module _ (s : List ℕ) (at i : ℕ) (e : at + name_length (drop at s) ≡ i + n
   name_stop h = sym (e ∙ rw (drop_of_length-le s h) (add-zero i))
 
   module _ (h : i < length s) (b : Bool) (t : b ≡ between 0x21 0x7E (get_or s i 0)) where
-    pub name_other : not b ≡ true → i ≡ at + name_length (drop at s)
+    pub name_other : b ≡ false → i ≡ at + name_length (drop at s)
     unfolding name_length
-    name_other n = sym (e ∙ rw (drop-cons s i 0 h, ← t, not-true b n) (add-zero i))
+    name_other n = sym (e ∙ rw (drop-cons s i 0 h, ← t, n) (add-zero i))
 
-    pub name_more : not b ≡ false → at + name_length (drop at s) ≡ (i + 1) + name_length (drop (i + 1) s)
+    pub name_more : b ≡ true → at + name_length (drop at s) ≡ (i + 1) + name_length (drop (i + 1) s)
     unfolding name_length
-    name_more n = e ∙ rw (drop-cons s i 0 h, ← t, not-false b n, add-one i) (omega arith)
+    name_more n = e ∙ rw (drop-cons s i 0 h, ← t, n, add-one i) (omega arith)
 
 -- LF bytes, counted from the end
 pub feeds_all : (s : List ℕ) (n i : ℕ) → i ≤ 0 → n ≡ line_feeds (drop i s) → n ≡ line_feeds s
@@ -191,29 +191,29 @@ module _ (s : List ℕ) where
     feeds_same q = sym (zero-add n) ∙ before_last (rw (ne_eqb (get_or s (i - 1) 0) 0x0A q))
 
 -- there is room after a byte that was found
-pub room : (s : List ℕ) (at b : ℕ) (a : Bool) → a ≡ is_at s at b → not a ≡ false → at + 1 ≤ length s
-room s at b a h y = omega (arith, at_inside s at b (sym h ∙ not-false a y))
+pub room : (s : List ℕ) (at b : ℕ) (a : Bool) → a ≡ is_at s at b → a ≡ true → at + 1 ≤ length s
+room s at b a h y = omega (arith, at_inside s at b (sym h ∙ y))
 
 -- the network and the LF of a line
 module _ (kind : Kind) (from end : ℕ) (s : List ℕ) (a : Bool) (h : a ≡ is_at s end 0x09) where
-  pub rest_tab : not a ≡ true → Malformed ≡ rest_at kind from end s
+  pub rest_tab : a ≡ false → Malformed ≡ rest_at kind from end s
   unfolding rest_at
-  rest_tab n = rw (← h, not-true a n)
+  rest_tab n = rw (← h, n)
 
-  module _ (y : not a ≡ false) where
+  module _ (y : a ≡ true) where
     module _ (r : Block) (q : r ≡ network_at s (end + 1)) where
       pub rest_none : r ≡ NoNet → Malformed ≡ rest_at kind from end s
       unfolding rest_at
-      rest_none n = rw (← h, not-false a y, ← q, n)
+      rest_none n = rw (← h, y, ← q, n)
 
       module _ (low high after : ℕ) (given : Bool) (n : r ≡ Net low high given after) (b : Bool) (t : b ≡ is_at s after 0x0A) where
-        pub rest_open : not b ≡ true → Malformed ≡ rest_at kind from end s
+        pub rest_open : b ≡ false → Malformed ≡ rest_at kind from end s
         unfolding rest_at
-        rest_open m = rw (← h, not-false a y, ← q, n, ← t, not-true b m)
+        rest_open m = rw (← h, y, ← q, n, ← t, m)
 
-        pub rest_line : not b ≡ false → Line (record { kind = kind; name = from; end = end; low = low; high = high; after = after + 1 }) ≡ rest_at kind from end s
+        pub rest_line : b ≡ true → Line (record { kind = kind; name = from; end = end; low = low; high = high; after = after + 1 }) ≡ rest_at kind from end s
         unfolding rest_at
-        rest_line m = rw (← h, not-false a y, ← q, n, ← t, not-false b m)
+        rest_line m = rw (← h, y, ← q, n, ← t, m)
 
 -- a line
 pub name_in : (xs : List ℕ) → name_length xs ≤ length xs
@@ -227,13 +227,13 @@ module _ (s : List ℕ) (at : ℕ) (r : Kinded) (h : r ≡ kind_at s at) where
   line_kind n = rw (← h, n)
 
   module _ (kind : Kind) (from : ℕ) (y : r ≡ Is kind from) (end : ℕ) (e : end ≡ from + name_length (drop from s)) (b : Bool) (o : b ≡ name_ok kind (part from end s)) where
-    pub line_name : not b ≡ true → Malformed ≡ line_at s at
+    pub line_name : b ≡ false → Malformed ≡ line_at s at
     unfolding line_at
-    line_name n = rw (← h, y, ← e, ← o, not-true b n)
+    line_name n = rw (← h, y, ← e, ← o, n)
 
-    pub line_rest : not b ≡ false → (q : Found) → q ≡ rest_at kind from end s → q ≡ line_at s at
+    pub line_rest : b ≡ true → (q : Found) → q ≡ rest_at kind from end s → q ≡ line_at s at
     unfolding line_at
-    line_rest n q t = rw (← h, y, ← e, ← o, not-false b n) t
+    line_rest n q t = rw (← h, y, ← e, ← o, n) t
 
 -- ## where a line's parts lie
 abbrev pub SoundKind : List ℕ → ℕ → Kinded → Type 0

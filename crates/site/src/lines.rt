@@ -4,7 +4,7 @@ ghost use Rattle.site.specs.Line.{word_at, kind_at, suits, name_length, name_ok,
 
 use text::networks::Block;
 
-#[derive(Drop)]
+#[derive(Clone, Copy)]
 pub enum Kind {
     Host,
     Class,
@@ -14,14 +14,14 @@ pub enum Kind {
 }
 
 // A line's kind, and where its name begins.
-#[derive(Drop)]
+#[derive(Clone, Copy)]
 pub enum Kinded {
     Is(Kind, usize),
     NoKind,
 }
 
 // The name stands from `name` up to `end`; the next line begins at `after`.
-#[derive(Drop)]
+#[derive(Clone, Copy)]
 pub struct SiteLine {
     pub kind: Kind,
     pub name: usize,
@@ -31,7 +31,7 @@ pub struct SiteLine {
     pub after: usize,
 }
 
-#[derive(Drop)]
+#[derive(Clone, Copy)]
 pub enum Found {
     Line(SiteLine),
     Malformed,

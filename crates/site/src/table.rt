@@ -4,7 +4,7 @@ ghost use Rattle.site.specs.Site.{line_feeds, stop, judged};
 
 use crate::lines::Found;
 
-#[derive(Drop)]
+#[derive(Clone, Copy)]
 pub enum Judged {
     Sound,
     TooLong,

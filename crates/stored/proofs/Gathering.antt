@@ -140,34 +140,34 @@ and-true true = refl
 and-true false = refl
 
 module _ (l : struct.Line) (f : numbers.Numbers) (z₀ : Bool) (e₀ : z₀ ≡ in_range (l.direction / 4294967296) (l.direction % 4294967296) f.direction) where
-  pub holds_0 : not z₀ ≡ true → false ≡ in_line (ranges l) (point_of f)
+  pub holds_0 : z₀ ≡ false → false ≡ in_line (ranges l) (point_of f)
   unfolding ranges in_line
-  holds_0 u = rw (← e₀, not-true z₀ u)
+  holds_0 u = rw (← e₀, u)
 
-  module _ (u₀ : not z₀ ≡ false) (z₁ : Bool) (e₁ : z₁ ≡ in_range (l.protocol / 4294967296) (l.protocol % 4294967296) f.protocol.0) where
-    pub holds_1 : not z₁ ≡ true → false ≡ in_line (ranges l) (point_of f)
+  module _ (u₀ : z₀ ≡ true) (z₁ : Bool) (e₁ : z₁ ≡ in_range (l.protocol / 4294967296) (l.protocol % 4294967296) f.protocol.0) where
+    pub holds_1 : z₁ ≡ false → false ≡ in_line (ranges l) (point_of f)
     unfolding ranges in_line
-    holds_1 u = rw (← e₀, not-false z₀ u₀, ← e₁, not-true z₁ u)
+    holds_1 u = rw (← e₀, u₀, ← e₁, u)
 
-    module _ (u₁ : not z₁ ≡ false) (z₂ : Bool) (e₂ : z₂ ≡ in_range (l.opener / 4294967296) (l.opener % 4294967296) f.opener) where
-      pub holds_2 : not z₂ ≡ true → false ≡ in_line (ranges l) (point_of f)
+    module _ (u₁ : z₁ ≡ true) (z₂ : Bool) (e₂ : z₂ ≡ in_range (l.opener / 4294967296) (l.opener % 4294967296) f.opener) where
+      pub holds_2 : z₂ ≡ false → false ≡ in_line (ranges l) (point_of f)
       unfolding ranges in_line
-      holds_2 u = rw (← e₀, not-false z₀ u₀, ← e₁, not-false z₁ u₁, ← e₂, not-true z₂ u)
+      holds_2 u = rw (← e₀, u₀, ← e₁, u₁, ← e₂, u)
 
-      module _ (u₂ : not z₂ ≡ false) (z₃ : Bool) (e₃ : z₃ ≡ in_range (l.address / 4294967296) (l.address % 4294967296) f.address.0) where
-        pub holds_3 : not z₃ ≡ true → false ≡ in_line (ranges l) (point_of f)
+      module _ (u₂ : z₂ ≡ true) (z₃ : Bool) (e₃ : z₃ ≡ in_range (l.address / 4294967296) (l.address % 4294967296) f.address.0) where
+        pub holds_3 : z₃ ≡ false → false ≡ in_line (ranges l) (point_of f)
         unfolding ranges in_line
-        holds_3 u = rw (← e₀, not-false z₀ u₀, ← e₁, not-false z₁ u₁, ← e₂, not-false z₂ u₂, ← e₃, not-true z₃ u)
+        holds_3 u = rw (← e₀, u₀, ← e₁, u₁, ← e₂, u₂, ← e₃, u)
 
-        module _ (u₃ : not z₃ ≡ false) (z₄ : Bool) (e₄ : z₄ ≡ in_range (l.remote / 4294967296) (l.remote % 4294967296) f.remote.0) where
-          pub holds_4 : not z₄ ≡ true → false ≡ in_line (ranges l) (point_of f)
+        module _ (u₃ : z₃ ≡ true) (z₄ : Bool) (e₄ : z₄ ≡ in_range (l.remote / 4294967296) (l.remote % 4294967296) f.remote.0) where
+          pub holds_4 : z₄ ≡ false → false ≡ in_line (ranges l) (point_of f)
           unfolding ranges in_line
-          holds_4 u = rw (← e₀, not-false z₀ u₀, ← e₁, not-false z₁ u₁, ← e₂, not-false z₂ u₂, ← e₃, not-false z₃ u₃, ← e₄, not-true z₄ u)
+          holds_4 u = rw (← e₀, u₀, ← e₁, u₁, ← e₂, u₂, ← e₃, u₃, ← e₄, u)
 
-          module _ (u₄ : not z₄ ≡ false) (z₅ : Bool) (e₅ : z₅ ≡ in_range (l.device / 4294967296) (l.device % 4294967296) f.device.0) where
+          module _ (u₄ : z₄ ≡ true) (z₅ : Bool) (e₅ : z₅ ≡ in_range (l.device / 4294967296) (l.device % 4294967296) f.device.0) where
             pub holds_5 : z₅ ≡ in_line (ranges l) (point_of f)
             unfolding ranges in_line
-            holds_5 = rw (← e₀, not-false z₀ u₀, ← e₁, not-false z₁ u₁, ← e₂, not-false z₂ u₂, ← e₃, not-false z₃ u₃, ← e₄, not-false z₄ u₄, ← e₅) (sym (and-true z₅))
+            holds_5 = rw (← e₀, u₀, ← e₁, u₁, ← e₂, u₂, ← e₃, u₃, ← e₄, u₄, ← e₅) (sym (and-true z₅))
 
 pub ruleset gathering = (rules, gather_start, gather_full, gather_none, gather_place, gather_more, in_from, in_not, holds_0, holds_1, holds_2, holds_3, holds_4, holds_5)
 
@@ -306,13 +306,13 @@ module _ (s : List ℕ) (f : numbers.Numbers) (l : length s ≡ 36864) (w : List
         let b : length (drop g.count (lines s 0)) ≡ suc (length (lines s n)) = ap length (h.part.others ∙ lines_got s g.stop q) in
         two_false (eqb (length s) 36864) (canonical widths (lines s 0)) _ (all_zero (drop (stop s 0) s)) (lt-leb (length (lines s 0)) 512 (omega (arith, length-drop g.count (lines s 0))))
 
-    pub verdict_rest : not z ≡ true → NotTable ≡ verdict_of s f
+    pub verdict_rest : z ≡ false → NotTable ≡ verdict_of s f
     unfolding verdict_of
-    verdict_rest u = rw (more_lines (line_at s g.stop) refl (not-true z u))
+    verdict_rest u = rw (more_lines (line_at s g.stop) refl (u))
 
-    module _ (u : not z ≡ false) where
+    module _ (u : z ≡ true) where
       zeros : all_zero (drop g.stop s) ≡ true
-      zeros = sym e ∙ not-false z u
+      zeros = sym e ∙ u
 
       last : NoLine ≡ line_at s g.stop
       last = zero_line s g.stop zeros
@@ -343,25 +343,25 @@ module _ (s : List ℕ) (f : numbers.Numbers) (l : length s ≡ 36864) (w : List
           or-false false = refl
 
       module _ (c : Bool) (i : c ≡ canonical widths (lines s 0)) where
-        pub verdict_order : not c ≡ true → NotTable ≡ verdict_of s f
+        pub verdict_order : c ≡ false → NotTable ≡ verdict_of s f
         unfolding verdict_of stored_of
-        verdict_order v = rw (eq-eqb (length s) 36864 l, ← i, not-true c v)
+        verdict_order v = rw (eq-eqb (length s) 36864 l, ← i, v)
 
-        module _ (v : not c ≡ false) (a : Bool) (b : a ≡ is_flow (point_of f)) where
+        module _ (v : c ≡ true) (a : Bool) (b : a ≡ is_flow (point_of f)) where
           stored : stored_of s ≡ true
           unfolding stored_of
-          stored = rw (eq-eqb (length s) 36864 l, ← i, not-false c v, few, ends)
+          stored = rw (eq-eqb (length s) 36864 l, ← i, v, few, ends)
 
-          pub verdict_flow : not a ≡ true → NotFlow ≡ verdict_of s f
+          pub verdict_flow : a ≡ false → NotFlow ≡ verdict_of s f
           unfolding verdict_of
-          verdict_flow y = rw (stored, ← b, not-true a y)
+          verdict_flow y = rw (stored, ← b, y)
 
-          pub verdict_accept : not a ≡ false → g.hit ≡ true → Accept ≡ verdict_of s f
+          pub verdict_accept : a ≡ true → g.hit ≡ true → Accept ≡ verdict_of s f
           unfolding verdict_of
-          verdict_accept y x = rw (stored, ← b, not-false a y, ← found, x)
+          verdict_accept y x = rw (stored, ← b, y, ← found, x)
 
-          pub verdict_drop : not a ≡ false → g.hit ≡ false → Drop ≡ verdict_of s f
+          pub verdict_drop : a ≡ true → g.hit ≡ false → Drop ≡ verdict_of s f
           unfolding verdict_of
-          verdict_drop y x = rw (stored, ← b, not-false a y, ← found, x)
+          verdict_drop y x = rw (stored, ← b, y, ← found, x)
 
 pub ruleset judging = (rules, zeros_end, zeros_one, zeros_not, zeros_eight_not, zeros_second_not, zeros_third_not, zeros_fourth_not, zeros_four, zeros_less, verdict_long, verdict_marked, verdict_rest, verdict_order, verdict_flow, verdict_accept, verdict_drop)

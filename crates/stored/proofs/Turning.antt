@@ -142,12 +142,12 @@ module _ (s ms : List ℕ) (w : Table) (n : ℕ) (m : Marked s ms w n) (d a b : 
           p.test
           ∙ rw (rows_got w i (omega (arith, p.order, p.within)), under_in d (row w a) (row w i) (rows w (i + 1)) p.first, rows_got w j p.within, under_in d (row w b) (row w j) (rows w (j + 1)) p.second, tails)
 
-      pub pair_other : not z ≡ true → false ≡ eq_table (under d (row w a) (rows w a)) (under d (row w b) (rows w b))
-      pair_other q = sym (both_cons ∙ rw (not-true z q))
+      pub pair_other : z ≡ false → false ≡ eq_table (under d (row w a) (rows w a)) (under d (row w b) (rows w b))
+      pair_other q = sym (both_cons ∙ rw (q))
 
-      module _ (q : not z ≡ false) (u v : Bool) (eu : u ≡ marked_in d ms n (i + 1)) (ev : v ≡ marked_in d ms n (j + 1)) where
+      module _ (q : z ≡ true) (u v : Bool) (eu : u ≡ marked_in d ms n (i + 1)) (ev : v ≡ marked_in d ms n (j + 1)) where
         on : eq_table (under d (row w a) (rows w a)) (under d (row w b) (rows w b)) ≡ eq_table (under d (row w a) (rows w (i + 1))) (under d (row w b) (rows w (j + 1)))
-        on = both_cons ∙ rw (not-false z q)
+        on = both_cons ∙ rw (q)
 
         one_back : (k : ℕ) → k + 1 - 1 ≡ k
         one_back k = omega arith
@@ -158,24 +158,24 @@ module _ (s ms : List ℕ) (w : Table) (n : ℕ) (m : Marked s ms w n) (d a b : 
         mv : v ≡ member_at d (row w b) w (j + 1)
         mv = ev ∙ by_marks s ms w n m d (row w b) (j + 1) (omega arith) (rw (one_back j) p.second)
 
-        pub pair_none : not u ≡ true → v ≡ false → true ≡ eq_table (under d (row w a) (rows w a)) (under d (row w b) (rows w b))
+        pub pair_none : u ≡ false → v ≡ false → true ≡ eq_table (under d (row w a) (rows w a)) (under d (row w b) (rows w b))
         unfolding eq_table
-        pair_none g h = sym (on ∙ rw (members_none d (row w a) w (i + 1) u mu (not-true u g), members_none d (row w b) w (j + 1) v mv h))
+        pair_none g h = sym (on ∙ rw (members_none d (row w a) w (i + 1) u mu (g), members_none d (row w b) w (j + 1) v mv h))
 
-        pub pair_short : not u ≡ true → v ≡ true → false ≡ eq_table (under d (row w a) (rows w a)) (under d (row w b) (rows w b))
+        pub pair_short : u ≡ false → v ≡ true → false ≡ eq_table (under d (row w a) (rows w a)) (under d (row w b) (rows w b))
         unfolding eq_table
-        pair_short g h = sym (on ∙ rw (members_none d (row w a) w (i + 1) u mu (not-true u g), members_cons d (row w b) w (j + 1) v mv h))
+        pair_short g h = sym (on ∙ rw (members_none d (row w a) w (i + 1) u mu (g), members_cons d (row w b) w (j + 1) v mv h))
 
-        pub pair_long : not u ≡ false → not v ≡ true → false ≡ eq_table (under d (row w a) (rows w a)) (under d (row w b) (rows w b))
+        pub pair_long : u ≡ true → v ≡ false → false ≡ eq_table (under d (row w a) (rows w a)) (under d (row w b) (rows w b))
         unfolding eq_table
-        pair_long g h = sym (on ∙ rw (members_cons d (row w a) w (i + 1) u mu (not-false u g), members_none d (row w b) w (j + 1) v mv (not-true v h)))
+        pair_long g h = sym (on ∙ rw (members_cons d (row w a) w (i + 1) u mu (g), members_none d (row w b) w (j + 1) v mv (h)))
 
-        pub pair_on : not u ≡ false → not v ≡ false → Pairing w d a b (i + 1) (j + 1)
+        pub pair_on : u ≡ true → v ≡ true → Pairing w d a b (i + 1) (j + 1)
         pair_on g h = record {
           order = omega (arith, p.order);
-          within = (member_yes d (row w b) w (j + 1) v mv (not-false v h)).0;
-          first = (member_yes d (row w a) w (i + 1) u mu (not-false u g)).1;
-          second = (member_yes d (row w b) w (j + 1) v mv (not-false v h)).1;
+          within = (member_yes d (row w b) w (j + 1) v mv (h)).0;
+          first = (member_yes d (row w a) w (i + 1) u mu (g)).1;
+          second = (member_yes d (row w b) w (j + 1) v mv (h)).1;
           test = on;
         }
 
@@ -359,36 +359,36 @@ module _ (d : ℕ) (x : Line) (w : Table) (at i : ℕ) (t : Turn d x w at i) (g 
   whole : canonical (drop d widths) (under d x (rows w at)) ≡ runs_of d x w i
   whole = canonical_runs d x w t.fits at t.below ∙ t.test
 
-  pub turn_bad : not g.good ≡ true → Grouped d x w at (record { good = false; end = g.end })
+  pub turn_bad : g.good ≡ false → Grouped d x w at (record { good = false; end = g.end })
   turn_bad u = record {
-    test = sym (whole ∙ (runs_first d x w t.fits i t.below t.line t.alike ∙ rw (← inner, not-true g.good u)));
+    test = sym (whole ∙ (runs_first d x w t.fits i t.below t.line t.alike ∙ rw (← inner, u)));
     rest = λ k. clash k refl;
     further = λ k. clash k refl;
     within = λ k. clash k refl;
     last = λ k. clash k refl;
   }
 
-  module _ (u : not g.good ≡ false) where
+  module _ (u : g.good ≡ true) where
     places : rows w g.end ≡ past (suc d) (row w i) (rows w i)
-    places = rw (← add-one d) (h.rest (not-false g.good u))
+    places = rw (← add-one d) (h.rest (u))
 
     behind : past d x (rows w at) ≡ past d x (rows w g.end)
     behind = t.rest ∙ (past_past d x (row w i) t.below t.alike (six w t.fits i t.line) (rows w i) ∙ ap (past d x) (sym places))
 
     pub turn_further : i < g.end
-    turn_further = h.further (not-false g.good u)
+    turn_further = h.further (u)
 
     pub turn_within : g.end ≤ length w
-    turn_within = h.within (not-false g.good u)
+    turn_within = h.within (u)
 
     runs_next : runs_of d x w i ≡ (apart (high_end (nth (row w i) d)) (under (suc d) (row w i) (rows w i)) (group (under d x (rows w g.end))) && rising (canonical (drop (suc d) widths)) (get_or widths d 0) (suc (high_end (nth (row w i) d))) (group (under d x (rows w g.end))))
-    runs_next = runs_first d x w t.fits i t.below t.line t.alike ∙ rw (← inner, not-false g.good u, places)
+    runs_next = runs_first d x w t.fits i t.below t.line t.alike ∙ rw (← inner, u, places)
 
     pub turn_less : length w - g.end < length w - i
     turn_less = omega (arith, turn_further, turn_within)
 
     lastly : suc d ≤ differ_of (row w i) (row w (g.end - 1))
-    lastly = omega (arith, h.last (not-false g.good u))
+    lastly = omega (arith, h.last (u))
 
     joined : d ≤ differ_of x (row w (g.end - 1))
     joined = alike_trans d x (row w i) (row w (g.end - 1)) t.alike (omega (arith, lastly))
@@ -397,22 +397,22 @@ module _ (d : ℕ) (x : Line) (w : Table) (at i : ℕ) (t : Turn d x w at i) (g 
       m : b ≡ member_at d x w g.end
       m = o ∙ by_marks s ms w n k d x g.end (omega (arith, turn_further)) joined
 
-      pub turn_out : not b ≡ true → Grouped d x w at (record { good = true; end = g.end })
+      pub turn_out : b ≡ false → Grouped d x w at (record { good = true; end = g.end })
       unfolding group apart rising
       turn_out v = record {
-        test = sym (whole ∙ (runs_next ∙ rw (members_none d x w g.end b m (not-true b v))));
-        rest = λ k. sym (behind ∙ past_none d x w g.end b m (not-true b v));
+        test = sym (whole ∙ (runs_next ∙ rw (members_none d x w g.end b m (v))));
+        rest = λ k. sym (behind ∙ past_none d x w g.end b m (v));
         further = λ k. omega (arith, turn_further, t.onward);
         within = λ k. turn_within;
         last = λ k. joined;
       }
 
-      module _ (v : not b ≡ false) where
+      module _ (v : b ≡ true) where
         room : g.end < length w
-        room = (member_yes d x w g.end b m (not-false b v)).0
+        room = (member_yes d x w g.end b m (v)).0
 
         high : d ≤ differ_of x (row w g.end)
-        high = (member_yes d x w g.end b m (not-false b v)).1
+        high = (member_yes d x w g.end b m (v)).1
 
         apart_from : differ_of (row w i) (row w g.end) < suc d
         apart_from = past_head (suc d) (row w i) (row w g.end) (rows w i) (rows w (g.end + 1)) (sym places ∙ rows_got w g.end room)
@@ -434,10 +434,10 @@ module _ (d : ℕ) (x : Line) (w : Table) (at i : ℕ) (t : Turn d x w at i) (g 
           unfolding follow_at follow
           parts = e ∙ rw (apart_first d x w t.fits g.end t.below room high (high_end (nth (row w i) d)) (under (suc d) (row w i) (rows w i)))
 
-          pub turn_wrong : not z ≡ true → Grouped d x w at (record { good = false; end = g.end })
+          pub turn_wrong : z ≡ false → Grouped d x w at (record { good = false; end = g.end })
           turn_wrong y = record {
             test = sym (whole ∙ (runs_next ∙ by_test (ltb (high_end (nth (row w i) d)) (low_end (nth (row w g.end) d)))
-                (λ p. let r : apart (high_end (nth (row w i) d)) (under (suc d) (row w i) (rows w i)) (group (under d x (rows w g.end))) ≡ false = (rw p at (sym parts)) ∙ not-true z y in rw r)
+                (λ p. let r : apart (high_end (nth (row w i) d)) (under (suc d) (row w i) (rows w i)) (group (under d x (rows w g.end))) ≡ false = (rw p at (sym parts)) ∙ y in rw r)
                 (λ p. rw (rising_low d x w t.fits g.end t.below room high (canonical (drop (suc d) widths)) (get_or widths d 0) (suc (high_end (nth (row w i) d))) (omega (arith, ltb-false (high_end (nth (row w i) d)) (low_end (nth (row w g.end) d)) p))) (and-false (apart (high_end (nth (row w i) d)) (under (suc d) (row w i) (rows w i)) (group (under d x (rows w g.end))))))));
             rest = λ j. clash j refl;
             further = λ j. clash j refl;
@@ -445,10 +445,10 @@ module _ (d : ℕ) (x : Line) (w : Table) (at i : ℕ) (t : Turn d x w at i) (g 
             last = λ j. clash j refl;
           }
 
-          pub turn_on : not z ≡ false → Turn d x w at g.end
+          pub turn_on : z ≡ true → Turn d x w at g.end
           unfolding runs_of
           turn_on y =
-              let p = split (ltb (high_end (nth (row w i) d)) (low_end (nth (row w g.end) d))) (apart (high_end (nth (row w i) d)) (under (suc d) (row w i) (rows w i)) (group (under d x (rows w g.end)))) (sym parts ∙ not-false z y) in
+              let p = split (ltb (high_end (nth (row w i) d)) (low_end (nth (row w g.end) d))) (apart (high_end (nth (row w i) d)) (under (suc d) (row w i) (rows w i)) (group (under d x (rows w g.end)))) (sym parts ∙ y) in
               record {
                 line = room;
                 alike = high;

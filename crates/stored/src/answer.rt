@@ -1,5 +1,5 @@
 // What a stored table answers on a flow; specs/Stored.antt has the numbers of the refusals.
-#[derive(Drop)]
+#[derive(Clone, Copy)]
 pub enum Verdict {
     NotTable,
     NotFlow,

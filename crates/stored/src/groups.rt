@@ -14,7 +14,7 @@ use crate::chunks;
 use crate::lines::Line;
 
 // Where a group of lines ends, if it is a table's.
-#[derive(Drop)]
+#[derive(Clone, Copy)]
 pub struct Ran {
     pub good: bool,
     pub end: usize,

@@ -7,7 +7,7 @@ use text::numbers;
 use text::numbers::Digits;
 
 // A line: a word for each range, low * 2^32 + high. (One word and no struct of two halves: it is returned and stored as a whole.)
-#[derive(Drop)]
+#[derive(Clone, Copy)]
 pub struct Line {
     pub direction: u64,
     pub protocol: u64,
@@ -18,21 +18,21 @@ pub struct Line {
 }
 
 // A range and the place after it.
-#[derive(Drop)]
+#[derive(Clone, Copy)]
 pub enum Ends {
     Between(u64, usize),
     NoRange,
 }
 
 // Three ranges of a line and the place after them.
-#[derive(Drop)]
+#[derive(Clone, Copy)]
 pub enum Half {
     Three(u64, u64, u64, usize),
     NoHalf,
 }
 
 // A line and the place after it.
-#[derive(Drop)]
+#[derive(Clone, Copy)]
 pub enum Read {
     Got(Line, usize),
     NoLine,

@@ -11,7 +11,7 @@ use crate::lines::{Line, Read};
 use crate::{chunks, groups, lines};
 
 // How many lines have marks, where the lines of the text end, and whether a line holds the flow.
-#[derive(Drop)]
+#[derive(Clone, Copy)]
 pub struct Gathered {
     pub count: usize,
     pub stop: usize,

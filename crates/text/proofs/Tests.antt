@@ -62,11 +62,11 @@ or_else a b e f = rw f at e
 
 -- ## code that makes one test after the other
 module _ {a p : Bool} (e : a ≡ p) where
-  pub and_no : not a ≡ true → (q : Bool) → false ≡ (p && q)
-  and_no n q = rw (← e, not-true a n)
+  pub and_no : a ≡ false → (q : Bool) → false ≡ (p && q)
+  and_no n q = rw (← e, n)
 
-  pub and_on : not a ≡ false → {r q : Bool} → r ≡ q → r ≡ (p && q)
-  and_on y h = rw (← e, not-false a y) h
+  pub and_on : a ≡ true → {r q : Bool} → r ≡ q → r ≡ (p && q)
+  and_on y h = rw (← e, y) h
 
   pub or_here : a ≡ true → (q : Bool) → true ≡ (p || q)
   or_here y q = rw (← e, y)

@@ -6,7 +6,7 @@ use crate::numbers::Digits;
 use crate::{bytes, numbers};
 
 // The first and the last address, whether a length was given, and the place after.
-#[derive(Drop)]
+#[derive(Clone, Copy)]
 pub enum Block {
     Net(u32, u32, bool, usize),
     NoNet,

@@ -5,7 +5,7 @@ ghost use Rattle.text.specs.Numbers.{number_at, closed_by, closed_at, quad_at, c
 use crate::bytes;
 
 // A number and the place after it.
-#[derive(Drop)]
+#[derive(Clone, Copy)]
 pub enum Digits {
     Number(u32, usize),
     NoNumber,

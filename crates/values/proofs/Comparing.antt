@@ -61,9 +61,9 @@ sharing_from s i j f g =
 raw_inside : (s : List ℕ) (b x : ℕ) → x ≡ get_or s b 0 → is_raw x ≡ true → b < length s
 raw_inside s b x e q = let r = (raw_in x q).0 in inside s b (omega arith)
 
-module _ (s : List ℕ) (a : ℕ) (l : a < length s) {t : Bool} (e : t ≡ is_raw (get_or s a 0)) (q : not t ≡ false) (b : ℕ) {x : ℕ} (f : x ≡ get_or s b 0) (u : x ≡ get_or s a 0) where
+module _ (s : List ℕ) (a : ℕ) (l : a < length s) {t : Bool} (e : t ≡ is_raw (get_or s a 0)) (q : t ≡ true) (b : ℕ) {x : ℕ} (f : x ≡ get_or s b 0) (u : x ≡ get_or s a 0) where
   there_inside : b < length s
-  there_inside = raw_inside s b x f (ap is_raw u ∙ sym e ∙ not-false t q)
+  there_inside = raw_inside s b x f (ap is_raw u ∙ sym e ∙ q)
 
   pub there_fits : length s < 2 ^ 64 → Fits w64 (b + 1)
   there_fits m = let n = there_inside in omega arith
@@ -79,8 +79,8 @@ module _ (s : List ℕ) (a : ℕ) (l : a < length s) {t : Bool} (e : t ≡ is_ra
       record {
         so_far = record {
           front = c.front ++ (get_or s a 0 ∷ []);
-          first = c.first ∙ rw (← v, raw_turn s a (sym e ∙ not-false t q), y, append_assoc);
-          second = c.second ∙ rw (← w, raw_turn s b (ap is_raw (sym f ∙ u) ∙ sym e ∙ not-false t q), z, append_assoc, ← f, u);
+          first = c.first ∙ rw (← v, raw_turn s a (sym e ∙ q), y, append_assoc);
+          second = c.second ∙ rw (← w, raw_turn s b (ap is_raw (sym f ∙ u) ∙ sym e ∙ q), z, append_assoc, ← f, u);
           fits = omega arith;
         };
         here = omega arith;
@@ -94,18 +94,18 @@ pub record Beginning (s : List ℕ) (i : ℕ) (w : List ℕ) (n a : ℕ) : Type 
 pub beginning_from : (s : List ℕ) (i : ℕ) (w : List ℕ) → Fits w64 i → Beginning s i w 0 i
 beginning_from s i w f = record { so_far = record { first = ap (bytes_at s) (sym (add-zero i)); fits = omega arith }; here = sym (add-zero i) }
 
-module _ (s : List ℕ) (a : ℕ) {b : ℕ} (f : b ≡ get_or s a 0) {t : Bool} (e : t ≡ is_raw b) (q : not t ≡ false) (m : length s < 2 ^ 64) where
+module _ (s : List ℕ) (a : ℕ) {b : ℕ} (f : b ≡ get_or s a 0) {t : Bool} (e : t ≡ is_raw b) (q : t ≡ true) (m : length s < 2 ^ 64) where
   pub raw_fits : Fits w64 (a + 1)
-  raw_fits = let o = raw_inside s a b f (sym e ∙ not-false t q) in omega arith
+  raw_fits = let o = raw_inside s a b f (sym e ∙ q) in omega arith
 
   pub beginning_on : (i : ℕ) (w : List ℕ) (n : ℕ) → Beginning s i w n a → n < length w → b ≡ get_or w n 0 → Beginning s i w (n + 1) (a + 1)
   beginning_on i w n h l u =
       let c = h.so_far in
       let v = h.here in
-      let o = raw_inside s a b f (sym e ∙ not-false t q) in
+      let o = raw_inside s a b f (sym e ∙ q) in
       let y : i + (n + 1) ≡ a + 1 = omega arith in
       record {
-        so_far = record { first = c.first ∙ rw (← v, raw_turn s a (ap is_raw (sym f) ∙ sym e ∙ not-false t q), y, add-one n, take-suc w n 0 l, append_assoc, ← f, u); fits = omega arith };
+        so_far = record { first = c.first ∙ rw (← v, raw_turn s a (ap is_raw (sym f) ∙ sym e ∙ q), y, add-one n, take-suc w n 0 l, append_assoc, ← f, u); fits = omega arith };
         here = omega arith;
       }
 

@@ -8,7 +8,7 @@ pub mod names; // names in rising order
 pub mod clean; // number 6: names twice, and surrogates without partner
 
 // What is left of a string: the bytes of a character, and the place after it.
-#[derive(Drop)]
+#[derive(Clone, Copy)]
 pub enum Piece {
     Stop,
     One(u32, usize),
@@ -18,28 +18,28 @@ pub enum Piece {
 }
 
 // The first byte of a string, if there is one.
-#[derive(Drop)]
+#[derive(Clone, Copy)]
 pub enum Head {
     Nil,
     Is(u32),
 }
 
 // An integer, but at most 1000000.
-#[derive(Drop)]
+#[derive(Clone, Copy)]
 pub enum Count {
     Is(u64),
     Not,
 }
 
 // Where something stands.
-#[derive(Drop)]
+#[derive(Clone, Copy)]
 pub enum Found {
     At(usize),
     Missing,
 }
 
 // How one string stands to another.
-#[derive(Drop)]
+#[derive(Clone, Copy)]
 pub enum Order {
     Less,
     Same,
@@ -47,14 +47,14 @@ pub enum Order {
 }
 
 // Where a name stands among others that rise, or would stand.
-#[derive(Drop)]
+#[derive(Clone, Copy)]
 pub enum Spot {
     Taken(usize),
     Free(usize),
 }
 
 // A name among others: known before, kept now, or left out for want of room.
-#[derive(Drop)]
+#[derive(Clone, Copy)]
 pub enum Entry {
     Known,
     Kept,
@@ -62,7 +62,7 @@ pub enum Entry {
 }
 
 // A value that was read: the place after it, and whether it is clean; or the place that is refused.
-#[derive(Drop)]
+#[derive(Clone, Copy)]
 pub enum Checked {
     Value(usize, bool),
     Refused(usize),
@@ -70,14 +70,14 @@ pub enum Checked {
 
 // A member that was read: the place after it, how many names are kept now, and whether it is clean; or the place that is
 // refused.
-#[derive(Drop)]
+#[derive(Clone, Copy)]
 pub enum Field {
     Past(usize, usize, bool),
     Halt(usize),
 }
 
 // A text that was judged: no number 5 or 6; 6; or 5, with the place that is refused.
-#[derive(Drop)]
+#[derive(Clone, Copy)]
 pub enum Verdict {
     Clean,
     Unclean,

@@ -1,0 +1,26 @@
+use Rattle.jsontext.proofs.Runs.{loops}
+use Rattle.jsontext.proofs.strings.plain.Goals as goal
+
+pub loop-i-init : goal.loop-i-init
+loop-i-init c = search loops
+
+pub bounds-s-i : goal.bounds-s-i
+bounds-s-i c = search loops
+
+pub is_plain-requires : goal.is_plain-requires
+is_plain-requires c = search loops
+
+pub returns-then-not-is_plain : goal.returns-then-not-is_plain
+returns-then-not-is_plain c = search loops
+
+pub overflow_add-i : goal.overflow_add-i
+overflow_add-i c = search loops
+
+pub loop-i-smaller : goal.loop-i-smaller
+loop-i-smaller c = search loops
+
+pub loop-i-preserved : goal.loop-i-preserved
+loop-i-preserved c = search loops
+
+pub returns : goal.returns
+returns c = search loops
