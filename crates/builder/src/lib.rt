@@ -5,6 +5,8 @@
 //  1555      the cells of the six dimensions, three words each
 //  7071      the lines of the table, three words each
 // Caller: write networks and rules, call `build`, read the lines by `table::range`, clear the buffer.
+#![tactic(auto)]
+
 ghost use Rattle.std.specs.Prelude.{◌≡◌, ◌+◌, ◌-◌, ◌*◌, ◌≤◌, length, drop};
 ghost use Rattle.flows.specs.Table.{table_of};
 ghost use Rattle.flows.specs.Flow.{widths};

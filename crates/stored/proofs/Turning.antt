@@ -475,4 +475,4 @@ table_none s ms w n m h = sym (ap (canonical widths) (rows_none w 0 (omega (arit
 pub table_is : (w : Table) (g : Ran) → Grouped 0 (row w 0) w 0 g → g.good ≡ canonical widths w
 table_is w g h = h.test ∙ ap (canonical widths) (under_all (row w 0) w)
 
-pub ruleset walking = (rules, grouped_six, single_alone, single_twice, turn_start, turn_bad, turn_out, turn_next, turn_wrong, turn_on, turn_less, table_none, table_is)
+pub ruleset walking = (rules, not-true, not-false, grouped_six, single_alone, single_twice, turn_start, turn_bad, turn_out, turn_next, turn_wrong, turn_on, turn_less, table_none, table_is)

@@ -1,4 +1,6 @@
 // The bytes of a table: a stored table's verdict on a flow, and a line written as text.
+#![tactic(auto)]
+
 pub mod answer;
 pub mod chunks;
 pub mod groups;

@@ -81,7 +81,7 @@ fn check_string(s: &[u8], at: usize) -> Checked
 }
 
 // The rest of an array, after its bracket. From `lo` on the lent places are free to use.
-#[cycle(check_array_check_member_check_object_check_value)]
+#[cycle(checking)]
 fn check_array(s: &[u8], at: usize, depth: usize, area: &mut [u64], lo: usize) -> Checked
     requires { lo ≤ length area.old }
     ensures value { result ≡ checked_of (array_at (value_at depth s.now) s.now at) (clean_elements (elements_in depth s.now at)) }
@@ -117,7 +117,7 @@ fn check_array(s: &[u8], at: usize, depth: usize, area: &mut [u64], lo: usize) -
 
 // The member that begins at `at`, whose value stands after `v`. The places of the names before it stand from `lo` to `hi`;
 // above them those of the objects in its value come and go.
-#[cycle(check_array_check_member_check_object_check_value)]
+#[cycle(checking)]
 fn check_member(
     s: &[u8],
     at: usize,
@@ -140,7 +140,7 @@ fn check_member(
 }
 
 // The rest of an object, after its bracket.
-#[cycle(check_array_check_member_check_object_check_value)]
+#[cycle(checking)]
 fn check_object(s: &[u8], at: usize, depth: usize, area: &mut [u64], lo: usize) -> Checked
     requires { lo ≤ length area.old }
     ensures value { result ≡ checked_of (object_at (value_at depth s.now) s.now at) (clean_members (members_in depth s.now at)) }
@@ -182,7 +182,7 @@ fn check_object(s: &[u8], at: usize, depth: usize, area: &mut [u64], lo: usize) 
 }
 
 // A value, in which arrays and objects are nested at most `depth` deep.
-#[cycle(check_array_check_member_check_object_check_value)]
+#[cycle(checking)]
 fn check_value(s: &[u8], at: usize, depth: usize, area: &mut [u64], lo: usize) -> Checked
     requires { lo ≤ length area.old }
     ensures value { result ≡ checked_of (value_at depth s.now at) (clean (tree_at depth s.now at)) }

@@ -1,5 +1,7 @@
 // What a JSON text stands for, read from the text itself by place: no tree is built and nothing is copied. The contracts
 // speak of the tree (specs/Tree.antt) and hold for every text; of what is not JSON the tree says nothing of use.
+#![tactic(auto)]
+
 pub mod decode; // the bytes that a string stands for, one by one
 pub mod strings; // where a string stands, and comparing strings while they are decoded
 pub mod walk; // members and elements
