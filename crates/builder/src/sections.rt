@@ -23,7 +23,7 @@ fn leaf(work: &mut [u64], n: usize, at: usize, a: u64, b: u64, ya: u64, yb: u64)
 }
 
 // The lines of a run of the last dimension, one of whose cells stands at place x; where the next ones go.
-#[cycle(last_section_put_run_section)]
+#[cycle(sections)]
 fn put_run(
     work: &mut [u64],
     n: usize,
@@ -52,7 +52,7 @@ fn put_run(
 
 // One dimension left: cells whose verdicts are the same are one run, and need no lines to compare. Most of a build is spent here.
 // There are never too many lines: a dimension has at most 285 cells.
-#[cycle(last_section_put_run_section)]
+#[cycle(sections)]
 fn last_section(work: &mut [u64], n: usize, at: usize, a: u64, b: u64, ya: u64, yb: u64) -> Built
     requires { (2357 ≤ at) × (3 * (at + 512) + 3 ≤ length work.old) × Ready n ya yb (ruled work.old) work.old }
     ensures { BuiltTo (table_left 1 n (ruled work.old) a b) at 5 work.old work.new result }
@@ -77,7 +77,7 @@ fn last_section(work: &mut [u64], n: usize, at: usize, a: u64, b: u64, ya: u64, 
 
 // The lines of the rules of two live sets with `left` dimensions left, from line `at` on. Each cell's section is built behind the pending run's,
 // and dropped where it is the same; a run's ends are put before its lines when it is over.
-#[cycle(last_section_put_run_section)]
+#[cycle(sections)]
 pub fn section(
     work: &mut [u64],
     n: usize,

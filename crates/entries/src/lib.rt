@@ -1,5 +1,7 @@
 // One entry of an access list: the members that it may have (number 9), and what they must be (number 10). Entries stand
 // at depth 10 of the file's 16, and what is in them deeper.
+#![tactic(auto)]
+
 pub mod known; // number 9
 pub mod members; // six members of one object
 pub mod places; // where all of them stand

@@ -1,4 +1,6 @@
 // Number 8: policies, lists, types and names. Depths are those of the file's 16: its members stand at 15, and so on inwards.
+#![tactic(auto)]
+
 pub mod index; // the lists of the file, gathered once
 pub mod named; // lists by their names
 pub mod names; // named arrays

@@ -27,17 +27,12 @@ accept_mask-yb-requires c = search rules
 
 pub section-requires : goal.section-requires
 section-requires c =
-    let s = c.before.before.before.before.before.before.before.before.before.before.before.before.before.before.before {-PATH-} in
-    let a = s.args in
-    let rules = c.slice_known-1 {-WAS put-flow-rules OLD slice_known-} in
-    let cells = c.slice_known-2-1 {-WAS all-cells OLD slice_known2-} in
-    let k = c.work-2-1 {-WAS others OLD work2-} in
-    let ya = c.others-k {-WAS accept-mask OLD others-} in
-    let yb = c.accept_mask-yb in (
+    let rules = c.put_flow_rules in
+    let cells = c.all_cells in (
       omega arith,
       omega arith,
-      omega (arith, cells.auto.0, rules.auto.0, s.requires.0),
-      ready_all (a.n + 5) k.result ya.result yb.result rules.new.0 cells.new.0 (omega (arith, s.requires.1)) cells.ensures k.ensures ya.ensures yb.ensures,
+      omega (arith, cells.auto.work, rules.auto.work, c.requires.0),
+      ready_all (c.args.n + 5) c.others-k.result c.accept_mask-ya.result c.accept_mask-yb.result rules.new.work cells.new.work (omega (arith, c.requires.1)) cells.ensures c.others-k.ensures c.accept_mask-ya.ensures c.accept_mask-yb.ensures,
     )
 
 pub shape_of-work : goal.shape_of-work
@@ -45,9 +40,6 @@ shape_of-work c = search rules
 
 pub returns : goal.returns
 returns c =
-    let s = c.before.before.before.before.before.before.before.before.before.before.before.before.before.before.before.before.before.before {-PATH-} in
-    let a = s.args in
-    let rules = c.slice_known-1 {-WAS put-flow-rules OLD slice_known-} in
-    let cells = c.slice_known-2-1 {-WAS all-cells OLD slice_known2-} in
-    let lines = c.section in
-    built_in a.n a.work.now rules.new.0 cells.new.0 lines.new.0 lines.result (omega (arith, s.requires.0)) (omega (arith, cells.auto.0, rules.auto.0)) s.requires.1 rules.ensures cells.ensures lines.ensures
+    let rules = c.put_flow_rules in
+    let cells = c.all_cells in
+    built_in c.args.n c.args.work.now rules.new.work cells.new.work c.section.new.work c.section.result (omega (arith, c.requires.0)) (omega (arith, cells.auto.work, rules.auto.work)) c.requires.1 rules.ensures cells.ensures c.section.ensures
