@@ -1,4 +1,6 @@
 // The reply of a table that `build` left in the work buffer: its lines as text, then zeros.
+#![tactic(auto)]
+
 ghost use Rattle.std.specs.Prelude.{◌≡◌, ◌≤◌, ◌<◌, length};
 ghost use Rattle.std.proofs.lemmas.List.Edits.{sets};
 ghost use Rattle.stored.specs.Line.{ranges};
