@@ -1,5 +1,7 @@
 // "a reading position over the lent file, never a copy of it": the file and a place in it, held together. Each function takes
 // the two apart for one call of a function on a slice and a number. Callers that have the file as a slice use `in_file`.
+#![tactic(auto)]
+
 ghost use Rattle.std.specs.Prelude.{◌≡◌, ◌-◌};
 ghost use Rattle.jsontext.specs.Reading.{is_space, span_at};
 ghost use Rattle.values.specs.Tree.{tree_at, tree_of, lookup, seen};

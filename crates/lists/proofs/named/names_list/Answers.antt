@@ -32,10 +32,10 @@ pub shape_of-area-in-Missing : goal.shape_of-area-in-Missing
 shape_of-area-in-Missing c = search indexing
 
 pub returns-in-Missing : goal.returns-in-Missing
-returns-in-Missing c = (search indexing, search indexing)
+returns-in-Missing c = record { value = search indexing; indexed = search indexing }
 
 pub shape_of-area-in-At : goal.shape_of-area-in-At
 shape_of-area-in-At c = search indexing
 
 pub returns-in-At : goal.returns-in-At
-returns-in-At c = (search indexing, search indexing)
+returns-in-At c = record { value = search indexing; indexed = search indexing }

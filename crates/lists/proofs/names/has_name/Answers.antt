@@ -1,8 +1,7 @@
 use Rattle.lists.proofs.Laws.{naming}
+use Rattle.lists.specs.Lists.{has_string_name}
 use Rattle.lists.proofs.names.has_name.Goals as goal
 
-pub must_be-requires : goal.must_be-requires
-must_be-requires c = search naming
-
 pub returns : goal.returns
+unfolding has_string_name
 returns c = search naming

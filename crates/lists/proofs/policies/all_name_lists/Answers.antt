@@ -14,7 +14,7 @@ pub shape_of-area-then-not-names_list : goal.shape_of-area-then-not-names_list
 shape_of-area-then-not-names_list c = search array_walk
 
 pub returns-then-not-names_list : goal.returns-then-not-names_list
-returns-then-not-names_list c = (search array_walk, search array_walk)
+returns-then-not-names_list c = record { value = search array_walk; indexed = search array_walk }
 
 pub next_element-requires : goal.next_element-requires
 next_element-requires c = search array_walk
@@ -26,7 +26,7 @@ pub shape_of-area-in-Done : goal.shape_of-area-in-Done
 shape_of-area-in-Done c = search array_walk
 
 pub returns-in-Done : goal.returns-in-Done
-returns-in-Done c = (search array_walk, search array_walk)
+returns-in-Done c = record { value = search array_walk; indexed = search array_walk }
 
 pub enum_told-in-Wrong : goal.enum_told-in-Wrong
 enum_told-in-Wrong c = search array_walk
@@ -35,7 +35,7 @@ pub shape_of-area-in-Wrong : goal.shape_of-area-in-Wrong
 shape_of-area-in-Wrong c = search array_walk
 
 pub returns-in-Wrong : goal.returns-in-Wrong
-returns-in-Wrong c = (search array_walk, search array_walk)
+returns-in-Wrong c = record { value = search array_walk; indexed = search array_walk }
 
 pub enum_known-k : goal.enum_known-k
 enum_known-k c = search array_walk

@@ -11,7 +11,7 @@ shape_of-area-then-not-is_direction c = search indexing
 pub returns-then-not-is_direction : goal.returns-then-not-is_direction
 unfolding both_ok
 returns-then-not-is_direction c =
-    (search indexing, search indexing)
+    record { value = search indexing; indexed = search indexing }
 
 pub is_direction-requires-2 : goal.is_direction-requires-2
 is_direction-requires-2 c = search indexing
@@ -22,4 +22,4 @@ shape_of-area c = search indexing
 pub returns : goal.returns
 unfolding both_ok
 returns c =
-    (search indexing, search indexing)
+    record { value = search indexing; indexed = search indexing }

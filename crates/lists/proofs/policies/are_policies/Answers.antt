@@ -26,13 +26,13 @@ pub shape_of-area-then-not-is_nested : goal.shape_of-area-then-not-is_nested
 shape_of-area-then-not-is_nested c = search indexing
 
 pub returns-then-not-is_nested : goal.returns-then-not-is_nested
-returns-then-not-is_nested c = search indexing
+returns-then-not-is_nested c = record { value = search indexing; indexed = search indexing }
 
 pub member-requires : goal.member-requires
 member-requires c = search indexing
 
 pub enum_told-1 : goal.enum_told-1
-enum_told-1 c = (search indexing, search indexing)
+enum_told-1 c = search indexing
 
 pub enum_known-mud : goal.enum_known-mud
 enum_known-mud c = search indexing
@@ -44,10 +44,10 @@ pub shape_of-area-in-Missing : goal.shape_of-area-in-Missing
 shape_of-area-in-Missing c = search indexing
 
 pub returns-in-Missing : goal.returns-in-Missing
-returns-in-Missing c = search indexing
+returns-in-Missing c = record { value = search indexing; indexed = search indexing }
 
 pub shape_of-area-in-At : goal.shape_of-area-in-At
 shape_of-area-in-At c = search indexing
 
 pub returns-in-At : goal.returns-in-At
-returns-in-At c = search indexing
+returns-in-At c = record { value = search indexing; indexed = search indexing }

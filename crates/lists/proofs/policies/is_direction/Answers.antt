@@ -23,7 +23,7 @@ pub shape_of-area-then-not-may_be_policy : goal.shape_of-area-then-not-may_be_po
 shape_of-area-then-not-may_be_policy c = search indexing
 
 pub returns-then-not-may_be_policy : goal.returns-then-not-may_be_policy
-returns-then-not-may_be_policy c = (search indexing, search indexing)
+returns-then-not-may_be_policy c = record { value = search indexing; indexed = search indexing }
 
 pub policy_lists-requires : goal.policy_lists-requires
 policy_lists-requires c = search indexing
@@ -44,10 +44,10 @@ pub shape_of-area-in-Missing : goal.shape_of-area-in-Missing
 shape_of-area-in-Missing c = search indexing
 
 pub returns-in-Missing : goal.returns-in-Missing
-returns-in-Missing c = (search indexing, search indexing)
+returns-in-Missing c = record { value = search indexing; indexed = search indexing }
 
 pub shape_of-area-in-At : goal.shape_of-area-in-At
 shape_of-area-in-At c = search indexing
 
 pub returns-in-At : goal.returns-in-At
-returns-in-At c = (search indexing, search indexing)
+returns-in-At c = record { value = search indexing; indexed = search indexing }

@@ -17,4 +17,5 @@ pub shape_of-area : goal.shape_of-area
 shape_of-area c = search listing
 
 pub returns : goal.returns
+unfolding policy_shape
 returns c = search listing

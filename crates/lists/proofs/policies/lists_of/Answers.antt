@@ -1,8 +1,7 @@
 use Rattle.lists.proofs.Laws.{listing}
+use Rattle.lists.specs.Lists.{lists_of}
 use Rattle.lists.proofs.policies.lists_of.Goals as goal
 
-pub nested_at-requires : goal.nested_at-requires
-nested_at-requires c = search listing
-
 pub returns : goal.returns
+unfolding lists_of
 returns c = search listing
