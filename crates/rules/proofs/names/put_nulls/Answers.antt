@@ -1,0 +1,17 @@
+use Rattle.rules.proofs.RowLaws.{rowing}
+use Rattle.rules.proofs.names.put_nulls.Goals as goal
+
+pub put_mask-p-requires : goal.put_mask-p-requires
+put_mask-p-requires c = search rowing
+
+pub put_mask-q-requires : goal.put_mask-q-requires
+put_mask-q-requires c = search rowing
+
+pub put_mask-requires : goal.put_mask-requires
+put_mask-requires c = search rowing
+
+pub shape_of-work : goal.shape_of-work
+shape_of-work c = search rowing
+
+pub returns : goal.returns
+returns c = (search rowing, search rowing)

@@ -1,0 +1,20 @@
+use Rattle.rules.proofs.RowLaws.{rowing}
+use Rattle.rules.proofs.names.put_things.Goals as goal
+
+pub string_place-requires : goal.string_place-requires
+string_place-requires c = search rowing
+
+pub put_mask-p-requires : goal.put_mask-p-requires
+put_mask-p-requires c = search rowing
+
+pub string_place-requires-2 : goal.string_place-requires-2
+string_place-requires-2 c = search rowing
+
+pub put_mask-requires : goal.put_mask-requires
+put_mask-requires c = search rowing
+
+pub shape_of-work : goal.shape_of-work
+shape_of-work c = search rowing
+
+pub returns : goal.returns
+returns c = (search rowing, search rowing)
