@@ -14,4 +14,4 @@ pub shape_of-work : goal.shape_of-work
 shape_of-work c = search rowing
 
 pub returns : goal.returns
-returns c = (search rowing, search rowing)
+returns c = record { put = search rowing; upper_bound = search rowing }

@@ -14,10 +14,10 @@ pub put_word-requires : goal.put_word-requires
 put_word-requires c = search rowing
 
 pub returns-in-Missing : goal.returns-in-Missing
-returns-in-Missing c = (search rowing, search rowing)
+returns-in-Missing c = record { put = search rowing; upper_bound = search rowing }
 
 pub shape_of-work : goal.shape_of-work
 shape_of-work c = search rowing
 
 pub returns-in-At : goal.returns-in-At
-returns-in-At c = (search rowing, search rowing)
+returns-in-At c = record { put = search rowing; upper_bound = search rowing }

@@ -14,10 +14,10 @@ pub shape_of-work-then-at-work : goal.shape_of-work-then-at-work
 shape_of-work-then-at-work c = search rowing
 
 pub returns-then-at-work : goal.returns-then-at-work
-returns-then-at-work c = (search rowing, search rowing)
+returns-then-at-work c = record { put = search rowing; value = search rowing }
 
 pub overflow_add-result-2 : goal.overflow_add-result-2
 overflow_add-result-2 c = search rowing
 
 pub returns : goal.returns
-returns c = (search rowing, search rowing)
+returns c = record { put = search rowing; value = search rowing }

@@ -9,10 +9,10 @@ pub other_than-requires : goal.other_than-requires
 other_than-requires c = search porting
 
 pub returns-then-string_is : goal.returns-then-string_is
+unfolding by_operator
 returns-then-string_is c = search porting
 
 pub string_is-requires-2 : goal.string_is-requires-2
-unfolding by_operator
 string_is-requires-2 c =
     search porting
 
@@ -20,21 +20,23 @@ pub one_range-requires : goal.one_range-requires
 one_range-requires c = search porting
 
 pub returns-then-string_is-2 : goal.returns-then-string_is-2
+unfolding by_operator
 returns-then-string_is-2 c = search porting
 
 pub string_is-requires-3 : goal.string_is-requires-3
 string_is-requires-3 c = search porting
 
 pub one_range-requires-then-string_is-3 : goal.one_range-requires-then-string_is-3
-unfolding by_operator
 one_range-requires-then-string_is-3 c =
     search porting
 
 pub returns-then-string_is-3 : goal.returns-then-string_is-3
+unfolding by_operator
 returns-then-string_is-3 c = search porting
 
 pub one_range-requires-2 : goal.one_range-requires-2
 one_range-requires-2 c = search porting
 
 pub returns : goal.returns
+unfolding by_operator
 returns c = search porting

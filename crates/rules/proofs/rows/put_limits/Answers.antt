@@ -17,4 +17,4 @@ pub shape_of-work : goal.shape_of-work
 shape_of-work c = search rowing
 
 pub returns : goal.returns
-returns c = limits_put _ _ _ _ c.put_names-end.ensures.0 c.put_word.ensures.0
+returns c = limits_put _ _ _ _ c.put_names-end.ensures.put c.put_word.ensures.put
