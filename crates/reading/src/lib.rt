@@ -1,4 +1,6 @@
 // The entries of both directions, read in one walk: numbers 9, 10 and 11, and the rules of which the table is built.
+#![tactic(auto)]
+
 ghost use Rattle.std.specs.Prelude.{◌≡◌, [], ◌∷◌, ◌≤◌, length};
 ghost use Rattle.values.specs.Decode.{bytes_at};
 ghost use Rattle.values.specs.Tree.{tree_at, tree_of, items_from, elements_from};
