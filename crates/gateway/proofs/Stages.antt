@@ -61,7 +61,7 @@ module _ {a p : Bool} (e : a ≡ p) where
   pub passes : a ≡ true → {y x : Answer} (z : Answer) → y ≡ x → y ≡ cond (not p) z x
   passes n z h = rw (← e, n) h
 
-pub ruleset judging = (rules, refused_as, goes_on, stops_here, passes)
+pub ruleset judging = (rules, not-true, not-false, refused_as, goes_on, stops_here, passes)
 
 -- ## 12, or taken
 module _ {t : Table} {w : List ℕ} {r : Built} (b : builder.BuiltIn t w r) where

@@ -1,5 +1,7 @@
 // The two public calls: `build`, from a MUD file and a site table to a reply, and `verdict`, from a stored reply and a flow to an answer.
 // Neither asks anything of its caller; specs/Promise.antt has what they promise, for every input.
+#![tactic(auto)]
+
 ghost use Rattle.std.specs.Prelude.{◌≡◌, length};
 ghost use Rattle.gateway.specs.Answer.{reason_number};
 ghost use Rattle.gateway.specs.Promise.{BuildPromise, VerdictPromise};
