@@ -1,4 +1,6 @@
 // The C boundary: include/mirokdeul.h says what each function does, in C's words.
+#![tactic(auto)]
+
 ghost use Rattle.std.specs.Prelude.{◌≡◌, length};
 ghost use Rattle.stored.specs.Stored.{verdict_of};
 ghost use Rattle.kernel.specs.Boundary.{BuildReturns, asked, verdict_code};

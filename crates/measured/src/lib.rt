@@ -1,4 +1,6 @@
 // Reading a JSON text, building lines from rules and writing them, each behind a C function of its own: for measuring, and no part of the library.
+#![tactic(auto)]
+
 ghost use Rattle.std.specs.Prelude.{◌≡◌, ◌≤◌, length};
 ghost use Rattle.flows.specs.Table.{table_of};
 ghost use Rattle.flows.specs.Flow.{widths};
