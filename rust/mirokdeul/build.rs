@@ -7,7 +7,7 @@ use std::env;
 use std::path::{Path, PathBuf};
 
 /// Where the archive is built, from this crate's folder.
-const DEFAULT: &str = "../../target/staticlib/libkernel.a";
+const DEFAULT: &str = "../../crates/kernel/out/libkernel.a";
 
 fn main() {
     println!("cargo:rerun-if-env-changed=MIROKDEUL_LIB");
