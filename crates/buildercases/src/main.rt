@@ -1,10 +1,15 @@
 // Builds the table of each set of rules in the file `cases`, and writes the case's name and the table's lines, or `over` for a longer one.
 // A case is two bytes (the length of the name, the number of rules), 80 bytes that begin with the name, and words of eight bytes, high byte
 // first: the 64 networks, then 21 for each rule.
-ghost use Rattle.std.specs.Prelude.{◌≡◌, ◌<◌, ◌≤◌, length};
+#![tactic(auto)]
+
+ghost use Rattle.std.specs.Prelude.{◌≡◌, ◌<◌, ◌≤◌, length, IfOk, take};
+ghost use Rattle.std.specs.Io.KnownBytes.{Consumes, IsAtEnd};
 
 use builder::Built;
-use libc::STDOUT_FILENO;
+use std::fs::File;
+use std::io;
+use std::io::{BufReader, BufWriter, Read, Write};
 
 fn wide(b: u8) -> usize
     ensures { result ≤ 255 }
@@ -22,121 +27,127 @@ fn word(b: &[u8; 8]) -> u64 {
     half(b[0], b[1], b[2], b[3]) * 4294967296 + half(b[4], b[5], b[6], b[7])
 }
 
+// Fills the buffer as far as the input goes, and answers how many bytes came.
+fn read_full<R: Read>(input: &mut R, buf: &mut [u8]) -> io::Result<usize>
+    ensures within { IfOk result (λ n. n ≤ length buf.new) }
+    ensures bytes { IfOk result (λ n. Consumes (R.remaining input.old) (R.remaining input.new) (take n buf.new)) }
+    ensures end { IfOk result (λ n. n < length buf.new → IsAtEnd (R.remaining input.new)) }
+{
+    let mut done = 0;
+    while done < buf.len() {
+        let n = input.read(&mut buf[done..])?;
+        if n == 0 {
+            break;
+        }
+        done += n;
+    }
+    Ok(done)
+}
+
 // Fills the words from `from` to below `to`.
-fn read_words(fd: i32, work: &mut [u64], from: usize, to: usize)
+fn read_words(cases: &mut impl Read, work: &mut [u64], from: usize, to: usize) -> io::Result<()>
     requires { (to ≤ 1555) × (length work.old ≡ 16290) }
 {
-    let mut i = from;
-    while i < to {
+    for i in from..to {
         let mut b = [0u8; 8];
-        io::read_full(fd, &mut b);
+        read_full(cases, &mut b)?;
         work[i] = word(&b);
-        i += 1;
     }
+    Ok(())
 }
 
-fn put(text: &[u8]) {
-    io::write_all(STDOUT_FILENO, text);
-}
-
-fn put_number(n: u64) {
-    io::print_decimal(STDOUT_FILENO, n);
-}
-
-fn put_address(a: u64) {
-    put_number(a / 16777216);
-    put(b".");
-    put_number(a / 65536 % 256);
-    put(b".");
-    put_number(a / 256 % 256);
-    put(b".");
-    put_number(a % 256);
+fn put_address(out: &mut impl Write, a: u64) -> io::Result<()> {
+    write!(
+        out,
+        "{}.{}.{}.{}",
+        a / 16777216,
+        a / 65536 % 256,
+        a / 256 % 256,
+        a % 256
+    )
 }
 
 // An end of a range of dimension d.
-fn put_end(d: usize, v: u64) {
+fn put_end(out: &mut impl Write, d: usize, v: u64) -> io::Result<()> {
     if d == 3 {
-        put_address(v);
+        put_address(out, v)
     } else {
-        put_number(v);
+        write!(out, "{v}")
     }
 }
 
-fn put_line(work: &[u64], i: usize)
+fn put_line(out: &mut impl Write, work: &[u64], i: usize) -> io::Result<()>
     requires { (i < 512) × (16290 ≤ length work.now) }
 {
-    let mut d: usize = 0;
-    while d < 6 {
-        put(b"\t");
+    for d in 0..6 {
         let range = builder::table::range(work, i, d);
-        put_end(d, range / 4294967296);
-        put(b"-");
-        put_end(d, range % 4294967296);
-        d += 1;
+        out.write_all(b"\t")?;
+        put_end(out, d, range / 4294967296)?;
+        out.write_all(b"-")?;
+        put_end(out, d, range % 4294967296)?;
     }
-    put(b"\n");
+    out.write_all(b"\n")
 }
 
-fn put_lines(work: &[u64], n: usize)
+fn put_lines(out: &mut impl Write, work: &[u64], n: usize) -> io::Result<()>
     requires { 16290 ≤ length work.now }
 {
-    put(b"\n");
-    let mut i: usize = 0;
-    while i < n && i < 512 {
-        put_line(work, i);
-        i += 1;
+    out.write_all(b"\n")?;
+    for i in 0..n.min(512) {
+        put_line(out, work, i)?;
     }
+    Ok(())
 }
 
-fn put_table(work: &mut [u64], n: usize)
+fn put_table(out: &mut impl Write, work: &mut [u64], n: usize) -> io::Result<()>
     requires { (length work.old ≡ 16290) × (n ≤ 66) }
 {
     match builder::build(work, n) {
-        Built::Over => put(b"\tover\n"),
-        Built::Lines(k) => put_lines(work, k),
+        Built::Over => out.write_all(b"\tover\n"),
+        Built::Lines(k) => put_lines(out, work, k),
     }
 }
 
 // Writes the n first of the next 80 bytes.
-fn put_name(fd: i32, n: usize) {
+fn put_name(cases: &mut impl Read, out: &mut impl Write, n: usize) -> io::Result<()> {
     let mut name = [0u8; 80];
-    io::read_full(fd, &mut name);
+    read_full(cases, &mut name)?;
     if n <= 80 {
-        put(&name[..n]);
+        out.write_all(&name[..n])?;
     }
+    Ok(())
 }
 
 // One case, and whether there was one.
-fn run_case(fd: i32) -> bool {
+fn run_case(cases: &mut impl Read, out: &mut impl Write) -> io::Result<bool> {
     let mut head = [0u8; 2];
-    if io::read_full(fd, &mut head) < 2 {
-        return false;
+    if read_full(cases, &mut head)? < 2 {
+        return Ok(false);
     }
-    put_name(fd, wide(head[0]));
+    put_name(cases, out, wide(head[0]))?;
     let rules = wide(head[1]);
     if 66 < rules {
-        return false;
+        return Ok(false);
     }
     let mut work = [0u64; 16290];
-    read_words(fd, &mut work, 0, 64);
-    read_words(fd, &mut work, 169, 169 + 21 * rules);
-    put_table(&mut work, rules);
-    true
+    read_words(cases, &mut work, 0, 64)?;
+    read_words(cases, &mut work, 169, 169 + 21 * rules)?;
+    put_table(out, &mut work, rules)?;
+    Ok(true)
 }
 
-fn run_all(fd: i32) {
-    let mut k: u32 = 1;
-    while k < 10000 && run_case(fd) {
-        k += 1;
+fn run_all(cases: &mut impl Read, out: &mut impl Write) -> io::Result<()> {
+    for _ in 1..10000 {
+        if !run_case(cases, out)? {
+            break;
+        }
     }
+    Ok(())
 }
 
-fn main() {
-    let fd = os::open_read(b"cases");
-    if fd < 0 {
-        os::fail(b"cases");
-        return;
-    }
-    run_all(fd);
-    libc::close(fd);
+fn main(rt: HostRuntime) -> io::Result<()> {
+    let mut cases = BufReader::new(rt.alloc(), File::open(&rt, "cases")?)?;
+    let mut out = BufWriter::new(rt.alloc(), io::writer(&rt))?;
+    run_all(&mut cases, &mut out)?;
+    out.flush()
 }

@@ -4,11 +4,15 @@
 // name's length; four places for the file and four for the site table; the lengths of the reply and of the work buffer; then the byte that
 // both are filled with before the build, and a 0. A file and a site table each have a front, a block that is written once and repeated, and a
 // back: the four places are where the front, the block, the repeated block and the whole end.
-ghost use Rattle.std.specs.Prelude.{◌≤◌};
-ghost use Rattle.io.specs.Counts.{IsPrefixLen};
+#![tactic(auto)]
+
+ghost use Rattle.std.specs.Prelude.{◌≡◌, ◌≢◌, ◌↔◌, ℕ, ◌<◌, ◌≤◌, EachIndex, IfOk, IsTrue, length, slice_index, take};
+ghost use Rattle.std.specs.Io.KnownBytes.{Consumes, IsAtEnd};
 
 use gateway::Answer;
-use libc::STDOUT_FILENO;
+use std::fs::File;
+use std::io;
+use std::io::{BufReader, BufWriter, Read, Write};
 
 fn wide(b: u8) -> usize
     ensures { result ≤ 255 }
@@ -27,23 +31,29 @@ fn filled(b: u8) -> u64 {
     wide(b) as u64 * 72340172838076673
 }
 
-fn put(text: &[u8]) {
-    io::write_all(STDOUT_FILENO, text);
-}
-
-fn put_number(n: usize) {
-    io::print_decimal(STDOUT_FILENO, n as u64);
+// Fills the buffer as far as the input goes, and answers how many bytes came.
+fn read_full<R: Read>(input: &mut R, buf: &mut [u8]) -> io::Result<usize>
+    ensures within { IfOk result (λ n. n ≤ length buf.new) }
+    ensures bytes { IfOk result (λ n. Consumes (R.remaining input.old) (R.remaining input.new) (take n buf.new)) }
+    ensures end { IfOk result (λ n. n < length buf.new → IsAtEnd (R.remaining input.new)) }
+{
+    let mut done = 0;
+    while done < buf.len() {
+        let n = input.read(&mut buf[done..])?;
+        if n == 0 {
+            break;
+        }
+        done += n;
+    }
+    Ok(done)
 }
 
 // Reads the bytes from a place to below another, where the buffer has them.
-fn fill(fd: i32, buf: &mut [u8], from: usize, to: usize) {
-    if to <= from {
-        return;
+fn fill(cases: &mut impl Read, buf: &mut [u8], from: usize, to: usize) -> io::Result<()> {
+    if from < to && to <= buf.len() {
+        read_full(cases, &mut buf[from..to])?;
     }
-    if buf.len() < to {
-        return;
-    }
-    io::read_full(fd, &mut buf[from..to]);
+    Ok(())
 }
 
 // Repeats the block from `start` to below `from` up to the place `to`.
@@ -52,22 +62,15 @@ fn repeat(buf: &mut [u8], start: usize, from: usize, to: usize) {
         return;
     }
     let step = from - start;
-    let mut i = from;
-    while i < to {
-        if buf.len() <= i {
-            return;
-        }
-        if i < step {
-            return;
-        }
+    for i in from..to.min(buf.len()) {
         buf[i] = buf[i - step];
-        i += 1;
     }
 }
 
 // n, or 0 where the buffer has fewer bytes.
 fn within(buf: &[u8], n: usize) -> usize
-    ensures { IsPrefixLen result buf.now }
+    ensures bound { result ≤ length buf.now }
+    ensures value { n ≤ length buf.now → result ≡ n }
 {
     if buf.len() < n {
         return 0;
@@ -76,151 +79,138 @@ fn within(buf: &[u8], n: usize) -> usize
 }
 
 // The text whose four places stand in the head; answers its length.
-fn read_text(fd: i32, head: &[u8; 24], at: usize, buf: &mut [u8]) -> usize
+fn read_text(cases: &mut impl Read, head: &[u8; 24], at: usize, buf: &mut [u8]) -> io::Result<usize>
     requires { at ≤ 16 }
-    ensures { IsPrefixLen result buf.new }
+    ensures { IfOk result (λ n. n ≤ length buf.new) }
 {
     let front = size_at(head, at);
     let block = size_at(head, at + 2);
     let repeated = size_at(head, at + 4);
     let end = size_at(head, at + 6);
-    fill(fd, buf, 0, front);
-    fill(fd, buf, front, block);
+    fill(cases, buf, 0, front)?;
+    fill(cases, buf, front, block)?;
     repeat(buf, front, block, repeated);
-    fill(fd, buf, repeated, end);
-    within(buf, end)
+    fill(cases, buf, repeated, end)?;
+    Ok(within(buf, end))
 }
 
 // Writes the next n bytes, at most 100.
-fn put_name(fd: i32, n: usize) {
+fn put_name(cases: &mut impl Read, out: &mut impl Write, n: usize) -> io::Result<()> {
     let mut name = [0u8; 100];
-    fill(fd, &mut name, 0, n);
+    fill(cases, &mut name, 0, n)?;
     let k = within(&name, n);
-    put(&name[..k]);
+    out.write_all(&name[..k])
 }
 
-fn put_answer(n: usize, count: usize) {
-    put(b"\t");
-    put_number(n);
-    put(b"\t");
-    put_number(count);
-    put(b"\n");
+fn put_answer(out: &mut impl Write, n: usize, count: usize) -> io::Result<()> {
+    writeln!(out, "\t{n}\t{count}")
 }
 
 // How many bytes stand before the first 0.
 fn first_zero(s: &[u8]) -> usize
-    ensures { IsPrefixLen result s.now }
+    ensures within { result ≤ length s.now }
+    ensures before { (k : ℕ) → k < result → slice_index s.now k ≢ 0 }
+    ensures found { result < length s.now → slice_index s.now result ≡ 0 }
 {
-    let mut i = 0;
-    while i < s.len() {
-        if s[i] == 0 {
-            return within(s, i);
-        }
-        i += 1;
-    }
-    within(s, i)
+    s.iter().position(|b| *b == 0).unwrap_or(s.len())
 }
 
-fn zero_from(s: &[u8], at: usize) -> bool {
-    let mut i = at;
-    while i < s.len() {
-        if s[i] != 0 {
-            return false;
-        }
-        i += 1;
-    }
-    true
+fn zero_from(s: &[u8], at: usize) -> bool
+    ensures { IsTrue result ↔ ((k : ℕ) → at ≤ k → k < length s.now → slice_index s.now k ≡ 0) }
+{
+    s.iter().skip(at).all(|b| *b == 0)
 }
 
-fn all_zero(words: &[u64]) -> bool {
-    let mut i = 0;
-    while i < words.len() {
-        if words[i] != 0 {
-            return false;
-        }
-        i += 1;
-    }
-    true
+fn all_zero(words: &[u64]) -> bool
+    ensures { IsTrue result ↔ EachIndex words.now (λ k. slice_index words.now k ≡ 0) }
+{
+    words.iter().all(|w| *w == 0)
 }
 
 // The lines, which a refused build has none of, and what stands after them.
-fn put_reply(lines: usize, reply: &[u8], work: &[u64]) {
+fn put_reply(out: &mut impl Write, lines: usize, reply: &[u8], work: &[u64]) -> io::Result<()> {
     let n = within(reply, lines);
-    put(&reply[..n]);
+    out.write_all(&reply[..n])?;
     if !zero_from(reply, n) {
-        put(b"not zero\n");
+        out.write_all(b"not zero\n")?;
     }
     if !all_zero(work) {
-        put(b"not zero\n");
+        out.write_all(b"not zero\n")?;
     }
+    Ok(())
 }
 
-fn put_built(r: Answer, reply: &[u8], work: &[u64]) {
+fn put_built(out: &mut impl Write, r: Answer, reply: &[u8], work: &[u64]) -> io::Result<()> {
     match r {
         Answer::Taken(count) => {
-            put_answer(0, count);
-            put_reply(first_zero(reply), reply, work);
+            put_answer(out, 0, count)?;
+            put_reply(out, first_zero(reply), reply, work)
         }
         Answer::Refused(why) => {
-            put_answer(wide(gateway::reason_number(why)), 0);
-            put_reply(0, reply, work);
+            put_answer(out, wide(gateway::reason_number(why)), 0)?;
+            put_reply(out, 0, reply, work)
         }
     }
 }
 
 // One build in lent buffers.
-fn build_in(file: &[u8], site: &[u8], reply: &mut [u8], work: &mut [u64]) {
+fn build_in(
+    out: &mut impl Write,
+    file: &[u8],
+    site: &[u8],
+    reply: &mut [u8],
+    work: &mut [u64],
+) -> io::Result<()> {
     let r = gateway::build(file, site, reply, work);
-    put_built(r, reply, work);
+    put_built(out, r, reply, work)
 }
 
 // One build in buffers of these lengths, filled with that byte.
-fn build_with(file: &[u8], site: &[u8], m: usize, n: usize, noise: u8) {
+fn build_with(
+    out: &mut impl Write,
+    file: &[u8],
+    site: &[u8],
+    m: usize,
+    n: usize,
+    noise: u8,
+) -> io::Result<()> {
     let mut reply = [noise; 36865];
     let mut work = [filled(noise); 16291];
-    if 36865 < m {
-        return;
+    if 36865 < m || 16291 < n {
+        return Ok(());
     }
-    if 16291 < n {
-        return;
-    }
-    build_in(file, site, &mut reply[..m], &mut work[..n]);
+    build_in(out, file, site, &mut reply[..m], &mut work[..n])
 }
 
 // One case, and whether there was one.
-fn run_case(fd: i32) -> bool {
+fn run_case(cases: &mut impl Read, out: &mut impl Write) -> io::Result<bool> {
     let mut head = [0u8; 24];
-    if io::read_full(fd, &mut head) < 24 {
-        return false;
+    if read_full(cases, &mut head)? < 24 {
+        return Ok(false);
     }
-    put_name(fd, size_at(&head, 0));
+    put_name(cases, out, size_at(&head, 0))?;
     let mut file = [0u8; 65536];
-    let n = read_text(fd, &head, 2, &mut file);
+    let n = read_text(cases, &head, 2, &mut file)?;
     let mut site = [0u8; 65536];
-    let m = read_text(fd, &head, 10, &mut site);
-    build_with(
-        &file[..n],
-        &site[..m],
-        size_at(&head, 18),
-        size_at(&head, 20),
-        head[22],
-    );
-    true
+    let m = read_text(cases, &head, 10, &mut site)?;
+    let reply_len = size_at(&head, 18);
+    let work_len = size_at(&head, 20);
+    build_with(out, &file[..n], &site[..m], reply_len, work_len, head[22])?;
+    Ok(true)
 }
 
-fn run_all(fd: i32) {
-    let mut k: u32 = 1;
-    while k < 100000 && run_case(fd) {
-        k += 1;
+fn run_all(cases: &mut impl Read, out: &mut impl Write) -> io::Result<()> {
+    for _ in 1..100000 {
+        if !run_case(cases, out)? {
+            break;
+        }
     }
+    Ok(())
 }
 
-fn main() {
-    let fd = os::open_read(b"cases");
-    if fd < 0 {
-        os::fail(b"cases");
-        return;
-    }
-    run_all(fd);
-    libc::close(fd);
+fn main(rt: HostRuntime) -> io::Result<()> {
+    let mut cases = BufReader::new(rt.alloc(), File::open(&rt, "cases")?)?;
+    let mut out = BufWriter::new(rt.alloc(), io::writer(&rt))?;
+    run_all(&mut cases, &mut out)?;
+    out.flush()
 }

@@ -1,13 +1,19 @@
 // Runs the reader over the published files that `list` names, and writes a line for each: the name and the answer.
-ghost use Rattle.std.specs.Prelude.{◌≡◌, ◌≤◌, length};
-ghost use Rattle.io.specs.Counts.{IsPrefixLen};
+#![tactic(auto)]
+
+ghost use Rattle.std.specs.Prelude.{◌≡◌, ◌≢◌, ℕ, ◌<◌, ◌≤◌, length, slice_index, take, IfOk};
+ghost use Rattle.std.specs.Io.KnownBytes.{Consumes, IsAtEnd};
 ghost use Rattle.jsonfiles.specs.Answers.{answer_of};
 
-use libc::STDOUT_FILENO;
+use std::fs::File;
+use std::io::{BufWriter, Read, Write};
+use std::rt::Files;
+use std::{io, str};
 use values::Verdict;
 use values::clean::judge;
 
 // The numbers 4 to 6 of document 01, or 0.
+#[tactic(auto, unfolding(crate::specs::Answers::answer_of))]
 fn answer(s: &[u8], area: &mut [u64]) -> u8
     ensures { result ≡ answer_of s.now }
 {
@@ -21,61 +27,75 @@ fn answer(s: &[u8], area: &mut [u64]) -> u8
     }
 }
 
-// Fills `buf` from the file, and answers how many bytes came; none where it is missing.
-fn load(path: &[u8], buf: &mut [u8]) -> usize
-    ensures { IsPrefixLen result buf.new }
+// Fills the buffer as far as the input goes, and answers how many bytes came.
+fn read_full<R: Read>(input: &mut R, buf: &mut [u8]) -> io::Result<usize>
+    ensures within { IfOk result (λ n. n ≤ length buf.new) }
+    ensures bytes { IfOk result (λ n. Consumes (R.remaining input.old) (R.remaining input.new) (take n buf.new)) }
+    ensures end { IfOk result (λ n. n < length buf.new → IsAtEnd (R.remaining input.new)) }
 {
-    let fd = os::open_read(path);
-    if fd < 0 {
-        return 0;
+    let mut done = 0;
+    while done < buf.len() {
+        let n = input.read(&mut buf[done..])?;
+        if n == 0 {
+            break;
+        }
+        done += n;
     }
-    let n = io::read_full(fd, buf);
-    libc::close(fd);
-    n
+    Ok(done)
 }
 
-fn run_file(name: &[u8]) {
+// Fills `buf` from the file, and answers how many bytes came; none where it is missing or cannot be read.
+fn load(files: &impl Files, path: &str, buf: &mut [u8]) -> usize
+    ensures { result ≤ length buf.new }
+{
+    match File::open(files, path) {
+        Ok(mut file) => read_full(&mut file, buf).unwrap_or(0),
+        Err(_) => 0,
+    }
+}
+
+fn run_file(files: &impl Files, out: &mut impl Write, name: &[u8]) -> io::Result<()> {
     // one byte more than a file may have
     let mut file = [0u8; 32769];
-    let n = load(name, &mut file);
+    let n = match str::from_utf8(name) {
+        Ok(path) => load(files, path, &mut file),
+        Err(_) => 0,
+    };
     // places for as many names as can stand open at a time in a file
     let mut area = [0u64; 4900];
     let number = answer(&file[..n], &mut area);
-    io::write_all(STDOUT_FILENO, name);
-    io::write_all(STDOUT_FILENO, b"\t");
-    io::print_decimal(STDOUT_FILENO, number as u64);
-    io::write_all(STDOUT_FILENO, b"\n");
+    out.write_all(name)?;
+    writeln!(out, "\t{number}")
 }
 
 // Where the line that begins at `at` ends.
 fn line_end(s: &[u8], at: usize) -> usize
     requires { at ≤ length s.now }
-    ensures { (at ≤ result) × (result ≤ length s.now) }
+    ensures within { (at ≤ result) × (result ≤ length s.now) }
+    ensures before { (k : ℕ) → at ≤ k → k < result → slice_index s.now k ≢ 10 }
+    ensures found { result < length s.now → slice_index s.now result ≡ 10 }
 {
     let mut i = at;
-    while i < s.len() {
-        if s[i] == b'\n' {
-            return i;
-        }
+    while i < s.len() && s[i] != b'\n' {
         i += 1;
     }
     i
 }
 
-fn run_list(list: &[u8]) {
+fn run_list(files: &impl Files, out: &mut impl Write, list: &[u8]) -> io::Result<()> {
     let mut at = 0;
     while at < list.len() {
-        let e = line_end(list, at);
-        run_file(&list[at..e]);
-        if e >= list.len() {
-            return;
-        }
-        at = e + 1;
+        let end = line_end(list, at);
+        run_file(files, out, &list[at..end])?;
+        at = end + 1;
     }
+    Ok(())
 }
 
-fn main() {
+fn main(rt: HostRuntime) -> io::Result<()> {
     let mut list = [0u8; 16384];
-    let n = load(b"list", &mut list);
-    run_list(&list[..n]);
+    let n = load(&rt, "list", &mut list);
+    let mut out = BufWriter::new(rt.alloc(), io::writer(&rt))?;
+    run_list(&rt, &mut out, &list[..n])?;
+    out.flush()
 }

@@ -1,66 +1,77 @@
 // Reads `thing.json` and `site.txt` in the current folder, and writes number, tab, line count, LF, then the table's lines.
-ghost use Rattle.std.specs.Prelude.{◌≤◌, length};
-ghost use Rattle.io.specs.Counts.{IsPrefixLen};
+#![tactic(auto)]
+
+ghost use Rattle.std.specs.Prelude.{◌≡◌, ◌≢◌, ℕ, ◌<◌, ◌≤◌, length, slice_index, take, IfOk};
+ghost use Rattle.std.specs.Io.KnownBytes.{Consumes, IsAtEnd};
 
 use gateway::Answer;
-use libc::STDOUT_FILENO;
+use std::fs::File;
+use std::io;
+use std::io::Read;
+use std::rt::Files;
 
-// Fills `buf` from the file, and answers how many bytes came; none where it is missing.
-fn load(path: &[u8], buf: &mut [u8]) -> usize
-    ensures { IsPrefixLen result buf.new }
+// Fills the buffer as far as the input goes, and answers how many bytes came.
+fn read_full<R: Read>(input: &mut R, buf: &mut [u8]) -> io::Result<usize>
+    ensures within { IfOk result (λ n. n ≤ length buf.new) }
+    ensures bytes { IfOk result (λ n. Consumes (R.remaining input.old) (R.remaining input.new) (take n buf.new)) }
+    ensures end { IfOk result (λ n. n < length buf.new → IsAtEnd (R.remaining input.new)) }
 {
-    let fd = os::open_read(path);
-    if fd < 0 {
-        return 0;
+    let mut done = 0;
+    while done < buf.len() {
+        let n = input.read(&mut buf[done..])?;
+        if n == 0 {
+            break;
+        }
+        done += n;
     }
-    let n = io::read_full(fd, buf);
-    libc::close(fd);
-    n
+    Ok(done)
 }
 
-fn put_head(number: u8, count: usize) {
-    io::print_decimal(STDOUT_FILENO, number as u64);
-    io::write_all(STDOUT_FILENO, b"\t");
-    io::print_decimal(STDOUT_FILENO, count as u64);
-    io::write_all(STDOUT_FILENO, b"\n");
+// Fills `buf` from the file, and answers how many bytes came; none where it is missing or cannot be read.
+fn load(files: &impl Files, path: &str, buf: &mut [u8]) -> usize
+    ensures { result ≤ length buf.new }
+{
+    match File::open(files, path) {
+        Ok(mut file) => read_full(&mut file, buf).unwrap_or(0),
+        Err(_) => 0,
+    }
+}
+
+fn put_head(rt: &impl Print, number: u8, count: usize) -> io::Result<()> {
+    println!(rt; "{number}\t{count}")
 }
 
 // Where the lines end: at the first zero.
 fn lines_end(reply: &[u8]) -> usize
-    ensures { result ≤ length reply.now }
+    ensures within { result ≤ length reply.now }
+    ensures before { (k : ℕ) → k < result → slice_index reply.now k ≢ 0 }
+    ensures found { result < length reply.now → slice_index reply.now result ≡ 0 }
 {
-    let mut i = 0;
-    while i < reply.len() {
-        if reply[i] == 0 {
-            return i;
-        }
-        i += 1;
-    }
-    i
+    reply.iter().position(|b| *b == 0).unwrap_or(reply.len())
 }
 
-fn put_lines(reply: &[u8]) {
+fn put_lines(rt: &impl Print, reply: &[u8]) -> io::Result<()> {
     let n = lines_end(reply);
-    io::write_all(STDOUT_FILENO, &reply[..n]);
+    rt.write_all(&reply[..n])
 }
 
-fn put_answer(file: &[u8], site: &[u8]) {
+fn put_answer(rt: &impl Print, file: &[u8], site: &[u8]) -> io::Result<()> {
     let mut reply = [0u8; 36864];
     let mut work = [0u64; 16290];
     match gateway::build(file, site, &mut reply, &mut work) {
-        Answer::Refused(why) => put_head(gateway::reason_number(why), 0),
+        Answer::Refused(why) => put_head(rt, gateway::reason_number(why), 0),
         Answer::Taken(count) => {
-            put_head(0, count);
-            put_lines(&reply);
+            put_head(rt, 0, count)?;
+            put_lines(rt, &reply)
         }
     }
 }
 
-fn main() {
+fn main(rt: HostRuntime) -> io::Result<()> {
     // one byte more than each may have, so that a longer one is seen as too long
     let mut file = [0u8; 32769];
     let mut site = [0u8; 8193];
-    let n = load(b"thing.json", &mut file);
-    let m = load(b"site.txt", &mut site);
-    put_answer(&file[..n], &site[..m]);
+    let n = load(&rt, "thing.json", &mut file);
+    let m = load(&rt, "site.txt", &mut site);
+    put_answer(&rt, &file[..n], &site[..m])
 }

@@ -1,10 +1,14 @@
 // Asks each stored table of the file `cases` about a flow, and writes a line for each: the case's name and the answer.
 // A case is a head of 24 bytes (three lengths of four bytes: name, text and whole; then the flow in 11 bytes), the name and the text;
 // zeros fill the text up to the whole length.
-ghost use Rattle.io.specs.Counts.{IsPrefixLen};
-ghost use Rattle.std.specs.Prelude.{◌≤◌};
+#![tactic(auto)]
 
-use libc::STDOUT_FILENO;
+ghost use Rattle.std.specs.Prelude.{◌<◌, ◌≤◌, length, take, IfOk};
+ghost use Rattle.std.specs.Io.KnownBytes.{Consumes, IsAtEnd};
+
+use std::fs::File;
+use std::io;
+use std::io::{BufReader, BufWriter, Read, Write};
 use stored::answer::Verdict;
 
 fn wide(b: u8) -> usize
@@ -39,57 +43,73 @@ fn flow(head: &[u8; 24]) -> flows::Numbers {
     }
 }
 
-// Fills the first n bytes of buf.
-fn load(fd: i32, buf: &mut [u8], n: usize) -> usize
-    ensures { IsPrefixLen result buf.new }
+// Fills the buffer as far as the input goes, and answers how many bytes came.
+fn read_full<R: Read>(input: &mut R, buf: &mut [u8]) -> io::Result<usize>
+    ensures within { IfOk result (λ n. n ≤ length buf.new) }
+    ensures bytes { IfOk result (λ n. Consumes (R.remaining input.old) (R.remaining input.new) (take n buf.new)) }
+    ensures end { IfOk result (λ n. n < length buf.new → IsAtEnd (R.remaining input.new)) }
 {
-    if buf.len() < n {
-        return 0;
+    let mut done = 0;
+    while done < buf.len() {
+        let n = input.read(&mut buf[done..])?;
+        if n == 0 {
+            break;
+        }
+        done += n;
     }
-    io::read_full(fd, &mut buf[..n])
+    Ok(done)
 }
 
-fn put_answer(v: Verdict) {
+// Fills the first n bytes of buf.
+fn load(cases: &mut impl Read, buf: &mut [u8], n: usize) -> io::Result<usize>
+    ensures { IfOk result (λ k. k ≤ length buf.new) }
+{
+    if buf.len() < n {
+        return Ok(0);
+    }
+    read_full(cases, &mut buf[..n])
+}
+
+fn put_answer(out: &mut impl Write, v: Verdict) -> io::Result<()> {
     match v {
-        Verdict::NotTable => io::write_all(STDOUT_FILENO, b"\t13\n"),
-        Verdict::NotFlow => io::write_all(STDOUT_FILENO, b"\t14\n"),
-        Verdict::Accept => io::write_all(STDOUT_FILENO, b"\taccept\n"),
-        Verdict::Drop => io::write_all(STDOUT_FILENO, b"\tdrop\n"),
-    };
+        Verdict::NotTable => out.write_all(b"\t13\n"),
+        Verdict::NotFlow => out.write_all(b"\t14\n"),
+        Verdict::Accept => out.write_all(b"\taccept\n"),
+        Verdict::Drop => out.write_all(b"\tdrop\n"),
+    }
 }
 
 // One case, and whether there was one.
-fn run_case(fd: i32) -> bool {
+fn run_case(cases: &mut impl Read, out: &mut impl Write) -> io::Result<bool> {
     let mut head = [0u8; 24];
-    if io::read_full(fd, &mut head) < 24 {
-        return false;
+    if read_full(cases, &mut head)? < 24 {
+        return Ok(false);
     }
     let mut name = [0u8; 80];
-    let n = load(fd, &mut name, length_at(&head, 0));
-    io::write_all(STDOUT_FILENO, &name[..n]);
+    let n = load(cases, &mut name, length_at(&head, 0))?;
+    out.write_all(&name[..n])?;
     let mut stored = [0u8; 36865];
-    load(fd, &mut stored, length_at(&head, 4));
+    load(cases, &mut stored, length_at(&head, 4))?;
     let whole = length_at(&head, 8);
     if 36865 < whole {
-        return false;
+        return Ok(false);
     }
-    put_answer(stored::verdict::verdict(&stored[..whole], flow(&head)));
-    true
+    put_answer(out, stored::verdict::verdict(&stored[..whole], flow(&head)))?;
+    Ok(true)
 }
 
-fn run_all(fd: i32) {
-    let mut k: u32 = 1;
-    while k < 10000 && run_case(fd) {
-        k += 1;
+fn run_all(cases: &mut impl Read, out: &mut impl Write) -> io::Result<()> {
+    for _ in 1..10000 {
+        if !run_case(cases, out)? {
+            break;
+        }
     }
+    Ok(())
 }
 
-fn main() {
-    let fd = os::open_read(b"cases");
-    if fd < 0 {
-        os::fail(b"cases");
-        return;
-    }
-    run_all(fd);
-    libc::close(fd);
+fn main(rt: HostRuntime) -> io::Result<()> {
+    let mut cases = BufReader::new(rt.alloc(), File::open(&rt, "cases")?)?;
+    let mut out = BufWriter::new(rt.alloc(), io::writer(&rt))?;
+    run_all(&mut cases, &mut out)?;
+    out.flush()
 }
