@@ -1,5 +1,5 @@
 // Reading networks and rules. A rule's place is that of its first word.
-ghost use Rattle.std.specs.Prelude.{◌≡◌, true, false, [], ◌∷◌, ◌+◌, ◌*◌, ◌<◌, ◌≤◌, length, take, drop, get_or};
+ghost use Rattle.std.specs.Prelude.{◌≡◌, [], ◌∷◌, ◌+◌, ◌<◌, ◌≤◌, length, take, drop, get_or};
 ghost use Rattle.flows.specs.Table.{in_range};
 ghost use Rattle.flows.specs.Rules.{in_all};
 ghost use Rattle.builder.specs.Encoding.{low_of, high_of, limits_of, at_most_seven, ruled};

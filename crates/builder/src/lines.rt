@@ -1,5 +1,5 @@
 // Lines of three words: put a range into them, compare groups of them.
-ghost use Rattle.std.specs.Prelude.{◌≡◌, true, false, [], ◌∷◌, ◌++◌, ◌+◌, ◌-◌, ◌*◌, ◌<◌, ◌≤◌, length, take, drop};
+ghost use Rattle.std.specs.Prelude.{◌≡◌, [], ◌∷◌, ◌++◌, ◌+◌, ◌-◌, ◌*◌, ◌<◌, ◌≤◌, length, take, drop};
 ghost use Rattle.builder.specs.Encoding.{column_of, word_of};
 ghost use Rattle.builder.specs.Cells.{top_of};
 ghost use Rattle.builder.specs.Post.{same_words, stamp_n, ClosedTo};

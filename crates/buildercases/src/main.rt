@@ -3,10 +3,10 @@
 // first: the 64 networks, then 21 for each rule.
 #![tactic(auto)]
 
-ghost use Rattle.std.specs.Prelude.{◌≡◌, ◌<◌, ◌≤◌, length, IfOk, take};
-ghost use Rattle.std.specs.Io.KnownBytes.{Consumes, IsAtEnd};
+ghost use Rattle.std.specs.Prelude.{◌≡◌, ◌<◌, ◌≤◌, length};
 
 use builder::Built;
+use files::read_full;
 use std::fs::File;
 use std::io;
 use std::io::{BufReader, BufWriter, Read, Write};
@@ -25,23 +25,6 @@ fn half(a: u8, b: u8, c: u8, d: u8) -> u64
 
 fn word(b: &[u8; 8]) -> u64 {
     half(b[0], b[1], b[2], b[3]) * 4294967296 + half(b[4], b[5], b[6], b[7])
-}
-
-// Fills the buffer as far as the input goes, and answers how many bytes came.
-fn read_full<R: Read>(input: &mut R, buf: &mut [u8]) -> io::Result<usize>
-    ensures within { IfOk result (λ n. n ≤ length buf.new) }
-    ensures bytes { IfOk result (λ n. Consumes (R.remaining input.old) (R.remaining input.new) (take n buf.new)) }
-    ensures end { IfOk result (λ n. n < length buf.new → IsAtEnd (R.remaining input.new)) }
-{
-    let mut done = 0;
-    while done < buf.len() {
-        let n = input.read(&mut buf[done..])?;
-        if n == 0 {
-            break;
-        }
-        done += n;
-    }
-    Ok(done)
 }
 
 // Fills the words from `from` to below `to`.

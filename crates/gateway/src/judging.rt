@@ -1,6 +1,6 @@
 // The numbers in their order, each judged when no lower one holds. Each function goes on to the next, and ends with the reply written or a
 // refusal; `work` is scratch in between.
-ghost use Rattle.std.specs.Prelude.{◌≡◌, ◌&&◌, ◌≤◌, length};
+ghost use Rattle.std.specs.Prelude.{◌≡◌, ◌≤◌, length};
 ghost use Rattle.flows.specs.Table.{table_of};
 ghost use Rattle.flows.specs.Flow.{widths};
 ghost use Rattle.flows.specs.Rules.{let_through};

@@ -6,9 +6,9 @@
 // back: the four places are where the front, the block, the repeated block and the whole end.
 #![tactic(auto)]
 
-ghost use Rattle.std.specs.Prelude.{◌≡◌, ◌≢◌, ◌↔◌, ℕ, ◌<◌, ◌≤◌, EachIndex, IfOk, IsTrue, length, slice_index, take};
-ghost use Rattle.std.specs.Io.KnownBytes.{Consumes, IsAtEnd};
+ghost use Rattle.std.specs.Prelude.{◌≡◌, ◌≢◌, ◌↔◌, ℕ, ◌<◌, ◌≤◌, EachIndex, IfOk, IsTrue, length, slice_index};
 
+use files::read_full;
 use gateway::Answer;
 use std::fs::File;
 use std::io;
@@ -29,23 +29,6 @@ fn size_at(head: &[u8; 24], at: usize) -> usize
 // A word of eight times that byte.
 fn filled(b: u8) -> u64 {
     wide(b) as u64 * 72340172838076673
-}
-
-// Fills the buffer as far as the input goes, and answers how many bytes came.
-fn read_full<R: Read>(input: &mut R, buf: &mut [u8]) -> io::Result<usize>
-    ensures within { IfOk result (λ n. n ≤ length buf.new) }
-    ensures bytes { IfOk result (λ n. Consumes (R.remaining input.old) (R.remaining input.new) (take n buf.new)) }
-    ensures end { IfOk result (λ n. n < length buf.new → IsAtEnd (R.remaining input.new)) }
-{
-    let mut done = 0;
-    while done < buf.len() {
-        let n = input.read(&mut buf[done..])?;
-        if n == 0 {
-            break;
-        }
-        done += n;
-    }
-    Ok(done)
 }
 
 // Reads the bytes from a place to below another, where the buffer has them.

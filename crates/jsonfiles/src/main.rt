@@ -1,11 +1,10 @@
 // Runs the reader over the published files that `list` names, and writes a line for each: the name and the answer.
 #![tactic(auto)]
 
-ghost use Rattle.std.specs.Prelude.{◌≡◌, ◌≢◌, ℕ, ◌<◌, ◌≤◌, length, slice_index, take, IfOk};
-ghost use Rattle.std.specs.Io.KnownBytes.{Consumes, IsAtEnd};
+ghost use Rattle.std.specs.Prelude.{◌≡◌, ◌≢◌, ℕ, ◌<◌, ◌≤◌, length, slice_index};
 ghost use Rattle.jsonfiles.specs.Answers.{answer_of};
 
-use std::fs::File;
+use files::load;
 use std::io::{BufWriter, Read, Write};
 use std::rt::Files;
 use std::{io, str};
@@ -24,33 +23,6 @@ fn answer(s: &[u8], area: &mut [u64]) -> u8
         Verdict::Broken(_) => 5,
         Verdict::Unclean => 6,
         Verdict::Clean => 0,
-    }
-}
-
-// Fills the buffer as far as the input goes, and answers how many bytes came.
-fn read_full<R: Read>(input: &mut R, buf: &mut [u8]) -> io::Result<usize>
-    ensures within { IfOk result (λ n. n ≤ length buf.new) }
-    ensures bytes { IfOk result (λ n. Consumes (R.remaining input.old) (R.remaining input.new) (take n buf.new)) }
-    ensures end { IfOk result (λ n. n < length buf.new → IsAtEnd (R.remaining input.new)) }
-{
-    let mut done = 0;
-    while done < buf.len() {
-        let n = input.read(&mut buf[done..])?;
-        if n == 0 {
-            break;
-        }
-        done += n;
-    }
-    Ok(done)
-}
-
-// Fills `buf` from the file, and answers how many bytes came; none where it is missing or cannot be read.
-fn load(files: &impl Files, path: &str, buf: &mut [u8]) -> usize
-    ensures { result ≤ length buf.new }
-{
-    match File::open(files, path) {
-        Ok(mut file) => read_full(&mut file, buf).unwrap_or(0),
-        Err(_) => 0,
     }
 }
 

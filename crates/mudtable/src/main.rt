@@ -1,41 +1,14 @@
 // Reads `thing.json` and `site.txt` in the current folder, and writes number, tab, line count, LF, then the table's lines.
 #![tactic(auto)]
 
-ghost use Rattle.std.specs.Prelude.{◌≡◌, ◌≢◌, ℕ, ◌<◌, ◌≤◌, length, slice_index, take, IfOk};
-ghost use Rattle.std.specs.Io.KnownBytes.{Consumes, IsAtEnd};
+ghost use Rattle.std.specs.Prelude.{◌≡◌, ◌≢◌, ℕ, ◌<◌, ◌≤◌, length, slice_index};
 
+use files::load;
 use gateway::Answer;
 use std::fs::File;
 use std::io;
 use std::io::Read;
 use std::rt::Files;
-
-// Fills the buffer as far as the input goes, and answers how many bytes came.
-fn read_full<R: Read>(input: &mut R, buf: &mut [u8]) -> io::Result<usize>
-    ensures within { IfOk result (λ n. n ≤ length buf.new) }
-    ensures bytes { IfOk result (λ n. Consumes (R.remaining input.old) (R.remaining input.new) (take n buf.new)) }
-    ensures end { IfOk result (λ n. n < length buf.new → IsAtEnd (R.remaining input.new)) }
-{
-    let mut done = 0;
-    while done < buf.len() {
-        let n = input.read(&mut buf[done..])?;
-        if n == 0 {
-            break;
-        }
-        done += n;
-    }
-    Ok(done)
-}
-
-// Fills `buf` from the file, and answers how many bytes came; none where it is missing or cannot be read.
-fn load(files: &impl Files, path: &str, buf: &mut [u8]) -> usize
-    ensures { result ≤ length buf.new }
-{
-    match File::open(files, path) {
-        Ok(mut file) => read_full(&mut file, buf).unwrap_or(0),
-        Err(_) => 0,
-    }
-}
 
 fn put_head(rt: &impl Print, number: u8, count: usize) -> io::Result<()> {
     println!(rt; "{number}\t{count}")

@@ -1,5 +1,5 @@
 // An entry as a rule of the builder: at most 21 words from a place on.
-ghost use Rattle.std.specs.Prelude.{◌≡◌, cond, ◌≤◌, ◌+◌, ◌*◌};
+ghost use Rattle.std.specs.Prelude.{◌≡◌, cond, ◌≤◌, ◌+◌};
 ghost use Rattle.text.specs.Written.{Put};
 ghost use Rattle.values.specs.Decode.{bytes_at};
 ghost use Rattle.values.specs.Tree.{tree_at, seen};

@@ -1,6 +1,6 @@
 // Whether the lines of a text are the table of some set, tested over the dimensions, six to none. Each line has a mark of 32 bits: 64 times the place
 // where it ends, 8 times how its range stands to that of the line before it in the first dimension in which they differ, and that dimension.
-ghost use Rattle.std.specs.Prelude.{◌≡◌, cond, reverse, ◌+◌, ◌-◌, ◌≤◌, ◌<◌, ◌/◌, ◌%◌, length, get_or, take, eqb};
+ghost use Rattle.std.specs.Prelude.{◌≡◌, cond, reverse, ◌+◌, ◌-◌, ◌≤◌, ◌<◌, ◌/◌, length, get_or, take, eqb};
 ghost use Rattle.flows.specs.Table.{eq_table};
 ghost use Rattle.flows.specs.Flow.{widths};
 ghost use Rattle.flows.specs.Canonical.{canonical};

@@ -1,5 +1,5 @@
 // A line of a table, written as text.
-ghost use Rattle.std.specs.Prelude.{◌+◌, ◌≤◌, ◌/◌, ◌%◌, length};
+ghost use Rattle.std.specs.Prelude.{◌+◌, ◌≤◌, length};
 ghost use Rattle.text.specs.Written.{Put};
 ghost use Rattle.stored.specs.Line.{ranges};
 ghost use Rattle.stored.specs.Text.{line_text};

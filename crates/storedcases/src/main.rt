@@ -3,9 +3,9 @@
 // zeros fill the text up to the whole length.
 #![tactic(auto)]
 
-ghost use Rattle.std.specs.Prelude.{◌<◌, ◌≤◌, length, take, IfOk};
-ghost use Rattle.std.specs.Io.KnownBytes.{Consumes, IsAtEnd};
+ghost use Rattle.std.specs.Prelude.{◌≤◌, length, IfOk};
 
+use files::read_full;
 use std::fs::File;
 use std::io;
 use std::io::{BufReader, BufWriter, Read, Write};
@@ -41,23 +41,6 @@ fn flow(head: &[u8; 24]) -> flows::Numbers {
         remote: flows::RemotePort(port(head[19], head[20])),
         device: flows::DevicePort(port(head[21], head[22])),
     }
-}
-
-// Fills the buffer as far as the input goes, and answers how many bytes came.
-fn read_full<R: Read>(input: &mut R, buf: &mut [u8]) -> io::Result<usize>
-    ensures within { IfOk result (λ n. n ≤ length buf.new) }
-    ensures bytes { IfOk result (λ n. Consumes (R.remaining input.old) (R.remaining input.new) (take n buf.new)) }
-    ensures end { IfOk result (λ n. n < length buf.new → IsAtEnd (R.remaining input.new)) }
-{
-    let mut done = 0;
-    while done < buf.len() {
-        let n = input.read(&mut buf[done..])?;
-        if n == 0 {
-            break;
-        }
-        done += n;
-    }
-    Ok(done)
 }
 
 // Fills the first n bytes of buf.
