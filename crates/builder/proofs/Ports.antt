@@ -2,13 +2,12 @@
 use Prim.Native.Nat.{ℕ, suc, ◌+◌, ◌-◌, ◌*◌, ◌≤◌, ◌<◌}
 use native.Mathlib.Omega.{arith}
 use mathlib.Core.Path.{◌≡◌, refl, sym, ap, ap₂, ◌∙◌, subst}
-use mathlib.Core.Bool.{Bool, true, false, cond, not, beq}
+use mathlib.Core.Bool.{Bool, true, false, cond, beq}
 use mathlib.Core.List.{List, [], ◌∷◌, ◌++◌, append_assoc, append-nil, cons≢nil}
 use lib.ListN.{length, take, drop, get_or, length-append}
 use lib.Seq.{take_at, take-take, length-take-le}
 use lib.Bits.{bit_and}
 use borrow.Author.Rules.{rules}
-use borrow.Author.Tests.{not-true, not-false}
 use Rattle.flows.specs.Table.{◌to◌, Table, runs_from, put_before, lines_of}
 use Rattle.text.proofs.Tests.{by_test, clash}
 use Rattle.flows.proofs.Meaning.{length_put}

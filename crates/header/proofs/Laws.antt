@@ -5,7 +5,7 @@ use native.Mathlib.Numerals.{add-one}
 use native.Mathlib.Nat.{mod-eq_of_lt}
 use mathlib.Core.Path.{◌≡◌, refl, sym, ap, ◌∙◌, subst}
 use mathlib.Core.List.{List, [], ◌∷◌, ◌++◌, append-nil, append_assoc}
-use mathlib.Core.Bool.{Bool, true, false, not, ◌&&◌, cond, or-false, and-false}
+use mathlib.Core.Bool.{Bool, true, false, ◌&&◌, cond, or-false, and-false}
 use lib.ListN.{length, take, set, length-take, length-append, length-set, drop_of_length-le}
 use lib.Seq.{take-suc-set, drop-cons}
 use lib.Dec.{ltb, leb}

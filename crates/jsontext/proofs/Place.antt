@@ -18,7 +18,7 @@ use Rattle.jsontext.specs.declared.Next.TheVariants.{Done, More, Wrong}
 use Rattle.jsontext.specs.declared.Start.{Start}
 use Rattle.text.specs.Bytes.{between, is_digit}
 use Rattle.jsontext.specs.Reading.{is, then, or_else, into, after, is_space, is_escape, is_plain, span, span_at, skip_at, one_at, times_at, some_at, token_at, word_at, run, tails_at, wide_at, escape_at, char_at, quote_or_char_at, string_at, minus_at, sign_at, int_at, fraction_at, is_e, exponent_at, number_at, key_at, start_of, next_at, element_at, member_at, array_at, object_at, by_start, value_at, stop, text_of}
-use Rattle.jsontext.specs.Rfc8259.{Language, word, Byte, ◌·◌, pair, left, Star, none, Opt, Ws, Frac, Exp, Number, Char, Array, Object, Text, Begins, Place}
+use Rattle.jsontext.specs.Rfc8259.{Language, word, Byte, ◌·◌, pair, left, Star, none, Opt, Ws, Frac, Exp, Char, Text, Begins, Place}
 use Rattle.jsontext.specs.Judged.{Judged}
 use Rattle.text.proofs.Tests.{cond_cases}
 use Rattle.jsontext.proofs.Sound.{split, seg_end, seg_length, cons_drop, inside_by, Means, ended, bad, Some, Class, Steps, finish, onward, wrong, Follows, closed, comma, neither, byte_means, times_means, some_means, span_reads, word_means, range_class, eq_class, digit_class, hex_class, one_digit, one_hex, some_tail, escape_means, char_means, char_steps, text_means, sign_reads, any_reads, whole_means, fraction_means, exponent_means, run_means, ws_reads, token_means, next_follows, reads_means, then_means, some_pair, some_star, some_word, some_items, element_steps, array_means, some_member, member_steps, object_means, value_means, some_value, stop_means, text_means_of, viable, sound}

@@ -19,7 +19,7 @@ use Rattle.jsontext.specs.declared.Next.TheVariants.{Done, More, Wrong}
 use Rattle.jsontext.specs.declared.Start.{Start}
 use Rattle.text.specs.Bytes.{between, is_digit}
 use Rattle.jsontext.specs.Reading.{is, then, or_else, into, after, is_space, is_hex, is_escape, is_plain, span, span_at, skip_at, one_at, times_at, some_at, token_at, word_at, run, tails_at, wide_at, escape_at, char_at, quote_or_char_at, string_at, minus_at, sign_at, int_at, fraction_at, is_e, exponent_at, number_at, key_at, start_of, next_at, element_at, member_at, array_at, object_at, by_start, value_at, stop, text_of}
-use Rattle.jsontext.specs.Rfc8259.{Language, Word, word, Byte, Range, within, ◌·◌, pair, ◌∣◌, left, right, Star, none, more, Opt, Times, Ws, Token, Digit, HexDig, Minus, Int, Frac, Exp, Number, Tail, Wide, Escaped, Char, String, Listed, Array, Member, Object, Literal, Value, Text, Begins}
+use Rattle.jsontext.specs.Rfc8259.{Language, Word, word, Byte, Range, within, ◌·◌, pair, ◌∣◌, left, right, Star, none, more, Opt, Times, Ws, Token, Digit, HexDig, Minus, Int, Frac, Exp, Number, Tail, Wide, Escaped, Char, String, Listed, Member, Literal, Value, Text, Begins}
 
 -- s holds the bytes v from place i on, up to place j
 pub data Seg (s : List ℕ) : ℕ → List ℕ → ℕ → Type 0 where

@@ -1,13 +1,13 @@
 -- The ways out of the measured functions. Assumes nothing.
 use Prim.Native.Nat.{ℕ, ◌≤◌}
 use mathlib.Core.Path.{◌≡◌, refl, sym, ap, ◌∙◌, subst}
-use mathlib.Core.Bool.{Bool, true, false, not, ◌&&◌}
+use mathlib.Core.Bool.{Bool, true, false, ◌&&◌}
 use mathlib.Core.List.{List}
 use native.Mathlib.Omega.{arith}
 use lib.Dec.{eqb, leb}
 use lib.ListN.{length}
 use borrow.Author.Rules.{rules}
-use borrow.Author.Tests.{not-true, not-false, eqb-true, leb-true, eq-eqb, ne_eqb}
+use borrow.Author.Tests.{eqb-true, leb-true, eq-eqb, ne_eqb}
 use Rattle.text.proofs.Tests.{by_test, and_left, and_right}
 use Rattle.flows.specs.Table.{Set, Table, table_of}
 use Rattle.flows.specs.Flow.{widths}

@@ -3,7 +3,7 @@ use Prim.Native.Nat.{ℕ, ◌+◌, ◌*◌, ◌/◌, ◌%◌, ◌≤◌, ◌<◌
 use native.Mathlib.Omega.{arith}
 use mathlib.Core.Path.{◌≡◌, refl, sym, ap, ap₂, ◌∙◌, subst}
 use mathlib.Core.List.{List, [], ◌∷◌, ◌++◌}
-use mathlib.Core.Bool.{Bool, true, false, not, ◌&&◌, cond, and-true}
+use mathlib.Core.Bool.{Bool, true, false, ◌&&◌, cond, and-true}
 use lib.ListN.{length, get_or, length-append}
 use lib.Dec.{ltb, eqb}
 use borrow.Author.Tests.{lt-ltb, ltb-true, ltb-false}
@@ -37,7 +37,7 @@ use Rattle.header.specs.declared.asked.Asked.TheVariants.{Text, Integer, Spelt, 
 use Rattle.header.specs.declared.asked.Form.TheVariants.{Network, Initiator}
 use Rattle.entries.specs.Sound.{strings_ok, nulls_ok, mud_ok, remote_network, remote_name, sides_named, sides_ok, ipv4_ok, port_ok, ports_ok, tcp_ok, protocol_is, tcp_beside, udp_beside, transport_ok, matches_ok, entry_ok}
 use Rattle.rules.specs.Meaning.{equals, in_net, mud_holds, ipv4_holds, port_holds, ports_hold, opener_holds, matches_hold, entry_holds, entry_accepts}
-use Rattle.rules.specs.Ports.{port_number, one_range, ranges, other_than, by_operator, ports_of, ports_in, all_ports}
+use Rattle.rules.specs.Ports.{port_number, one_range, other_than, by_operator, ports_of, ports_in, all_ports}
 use Rattle.rules.specs.Words.{ranges_of}
 use Rattle.rules.specs.Parts.{number_or, protocol_in, protocols, opener_in, openers, net_or, network_in, networks, transport}
 use Rattle.rules.specs.Names.{mask_if, masked, maker_mask, model_mask, controller_mask, kin_mask, local_mask, mine_mask, dns_mask, thing_masks, class_mask, null_masks, host_mask, mask_words}

@@ -4,13 +4,13 @@ use native.Mathlib.Nat.{add-zero, add_comm, zero-add}
 use native.Mathlib.Numerals.{add-one}
 use native.Mathlib.Omega.{arith}
 use mathlib.Core.Path.{◌≡◌, refl, sym, ap, ◌∙◌, subst}
-use mathlib.Core.Bool.{Bool, true, false, not, cond}
+use mathlib.Core.Bool.{Bool, true, false, cond}
 use mathlib.Core.List.{List, [], ◌∷◌}
 use lib.ListN.{length, drop, get_or, drop_of_length-le, length-drop}
 use lib.Seq.{drop-cons}
 use lib.Dec.{ltb, eqb}
 use borrow.Author.Rules.{rules}
-use borrow.Author.Tests.{eq-eqb, ne_eqb, not-true, not-false, lt-ltb, le-ltb, lt-leb, le-leb}
+use borrow.Author.Tests.{eq-eqb, ne_eqb, lt-ltb, le-ltb, lt-leb, le-leb}
 use Rattle.text.specs.Bytes.{between, is_at}
 use Rattle.text.specs.Ascii.{ascii}
 use Rattle.text.specs.Words.{has_at, same_bytes}

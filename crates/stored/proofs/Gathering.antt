@@ -5,16 +5,16 @@ use native.Mathlib.Numerals.{add-one}
 use native.Mathlib.Omega.{arith}
 use mathlib.Core.Path.{◌≡◌, refl, ap, sym, ◌∙◌}
 use mathlib.Core.List.{List, [], ◌∷◌}
-use mathlib.Core.Bool.{Bool, true, false, ◌&&◌, ◌||◌, not}
+use mathlib.Core.Bool.{Bool, true, false, ◌&&◌, ◌||◌}
 use lib.ListN.{length, get_or, drop, set, length-set, length-drop, drop_of_length-le}
 use lib.Seq.{drop-cons, get_or-set_same, get_or-set_other}
 use lib.Dec.{eqb, leb, ltb}
 use borrow.Author.Rules.{rules}
-use borrow.Author.Tests.{eq-eqb, ne_eqb, eqb-true, le-leb, lt-leb, ltb-true, ltb-false, not-true, not-false}
+use borrow.Author.Tests.{eq-eqb, ne_eqb, eqb-true, le-leb, lt-leb, ltb-true, ltb-false}
 use Rattle.text.specs.Bytes.{byte_at, between}
 use Rattle.text.specs.Numbers.{number_at, closed_by}
 use Rattle.text.proofs.Tests.{by_test, and_left, and_right}
-use Rattle.flows.specs.Table.{Point, Line, Table, in_range, in_line, in_table}
+use Rattle.flows.specs.Table.{Point, Table, in_range, in_line, in_table}
 use Rattle.flows.specs.Flow.{widths, is_flow}
 use Rattle.flows.specs.Canonical.{canonical}
 use Rattle.flows.specs.Numbers.{point_of}

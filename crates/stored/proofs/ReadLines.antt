@@ -14,7 +14,6 @@ use Rattle.text.specs.declared.numbers.Digits.TheVariants.{Number, NoNumber}
 use Rattle.text.proofs.Tests.{cond_cases}
 use Rattle.text.proofs.NumberLaws.{Sound, number_sound, closed_sound, quad_sound}
 use Rattle.text.proofs.Walk.{Onward, walk_turn, walk_end}
-use Rattle.flows.specs.Table.{Line}
 use Rattle.flows.specs.Flow.{widths}
 use Rattle.flows.specs.Canonical.{flow_line, LineIn}
 use Rattle.stored.specs.declared.lines.Line as struct

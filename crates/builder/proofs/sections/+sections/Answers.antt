@@ -1,13 +1,9 @@
 -- `section`, `last_section` and `put_run` meet their contracts.
-use borrow.Author.Rules.{rules}
-use Prim.Native.Nat.{ℕ, ◌+◌, ◌-◌, ◌*◌, ◌<◌, ◌≤◌}
 use native.Mathlib.Omega.{arith}
 use borrow.Author.Tests.{not-true, not-false}
 use mathlib.Core.Path.{◌∙◌}
-use lib.ListN.{take}
-use Rattle.builder.specs.Cells.{top_of}
-use Rattle.builder.proofs.Levels.{Turn, none_is, leaf_is, last_is, first_inside, first_over, first_few, first_front, turn_start, next_fits, next_less, less_on, turn_pass, turn_ready, turn_over, turn_over_sec, turn_few, turn_inside, turn_keep, turn_over_new, turn_new, turn_done}
-use Rattle.builder.proofs.Ports.{Scan, scanning, sets_verdict, scan_room, scan_verdict, scan_ready, scan_less, scan_on, scan_new, scan_done, put_few, not_over, one_more, run_put, run_dropped}
+use Rattle.builder.proofs.Levels.{none_is, leaf_is, last_is, first_inside, first_over, first_few, first_front, turn_start, next_fits, next_less, less_on, turn_pass, turn_ready, turn_over, turn_over_sec, turn_few, turn_inside, turn_keep, turn_over_new, turn_new, turn_done}
+use Rattle.builder.proofs.Ports.{scanning, sets_verdict, scan_room, scan_verdict, scan_ready, scan_less, scan_on, scan_new, scan_done, put_few, not_over, one_more, run_put, run_dropped}
 use Rattle.builder.proofs.sections.+sections.Goals as goal
 
 pub last_section-loop-run-smaller-then-next-run : goal.last_section-loop-run-smaller-then-next-run
