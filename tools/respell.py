@@ -23,8 +23,9 @@ TOKEN = re.compile(WORD + "+")
 
 
 def files(*patterns):
-    said = subprocess.run(["git", "ls-files", *patterns], capture_output=True, text=True, check=True).stdout
-    return [pathlib.Path(p) for p in said.split()]
+    said = subprocess.run(["git", "ls-files", "-co", "--exclude-standard", *patterns], capture_output=True, text=True, check=True).stdout
+    found = (pathlib.Path(p) for p in sorted(set(said.split())))
+    return [p for p in found if p.exists() and "out" not in p.parts]
 
 
 def declared(paths):
@@ -56,7 +57,7 @@ def mapping(names):
     to = {}
     for n in sorted((n for n in names if is_old(n)), key=lambda n: ("-" in n, n)):
         to[n] = respelled(n)
-        if "-" in n and (to[n] in taken or to[n] in set(to.values()) - {to[n]} or list(to.values()).count(to[n]) > 1):
+        if "-" in n and (to[n] in taken or list(to.values()).count(to[n]) > 1):
             to[n] += "_lem"
     return to
 

@@ -9,6 +9,9 @@ use crate::cells::{place, top};
 use crate::lines::{blank, close, settle};
 use crate::live::{Judged, accepts, cell_at, is_known, judged_at, longer, none_accepts};
 
+// A table of more lines is refused.
+const MOST_LINES: usize = 512;
+
 // No dimension left: one line or none.
 fn leaf(work: &mut [u64], n: usize, at: usize, a: u64, b: u64, ya: u64, yb: u64) -> Built
     requires { (3 * at + 3 ≤ length work.old) × Ready n ya yb (ruled work.old) work.old }
@@ -123,7 +126,7 @@ pub fn section(
             if settle(work, kept, end, z, d, run.low, run.high) {
                 run = longer(run, next);
             } else {
-                if 512 < z - at {
+                if MOST_LINES < z - at {
                     return Built::Over;
                 }
                 kept = end;

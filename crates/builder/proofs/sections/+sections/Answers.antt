@@ -187,13 +187,13 @@ pub section-loop-run-preserved-then-settle : goal.section-loop-run-preserved-the
 section-loop-run-preserved-then-settle t c =
     turn_keep _ _ _ _ _ _ _ _ _ _ _ _ _ c.loop-run.invariant (omega (arith, c.loop-run-test.true, c.top-last.ensures)) _ c.cell_at-next.ensures _ _ c.section-else-is_known.ensures c.section-else-is_known.auto.work _ c.in-Lines-section.is _ _ c.settle.ensures c.if-settle.true _ c.longer-run-then-settle.ensures
 
-pub section-shape_of-work-then-z-at-gt512 : goal.section-shape_of-work-then-z-at-gt512
-section-shape_of-work-then-z-at-gt512 t c =
+pub section-shape_of-work-then-z-at-gt-MOST_LINES : goal.section-shape_of-work-then-z-at-gt-MOST_LINES
+section-shape_of-work-then-z-at-gt-MOST_LINES t c =
     c.settle.auto.work ∙ c.section-else-is_known.auto.work ∙ c.loop-run.invariant.long ∙ c.section.auto.work
 
-pub section-returns-then-z-at-gt512 : goal.section-returns-then-z-at-gt512
-section-returns-then-z-at-gt512 t c =
-    turn_over _ _ _ _ _ _ _ _ _ _ _ _ _ c.loop-run.invariant _ c.settle.new.work (first_front c.args.n c.args.at c.args.left c.args.a c.args.b c.args.ya c.args.yb c.args.work.now (omega (arith, c.if-left-eq0.false)) c.requires.0 c.requires.1 c.requires.2 c.requires.3 _ _ c.place-x.ensures c.cell_at-run.ensures _ _ c.section.ensures c.section.auto.work _ c.in-Lines.is) (turn_over_new _ _ _ _ _ _ _ _ _ _ _ _ _ c.loop-run.invariant (omega (arith, c.loop-run-test.true, c.top-last.ensures)) _ c.cell_at-next.ensures _ _ c.section-else-is_known.ensures c.section-else-is_known.auto.work _ c.in-Lines-section.is _ _ c.settle.ensures c.if-settle.false c.if-z-at-gt512.true)
+pub section-returns-then-z-at-gt-MOST_LINES : goal.section-returns-then-z-at-gt-MOST_LINES
+section-returns-then-z-at-gt-MOST_LINES t c =
+    turn_over _ _ _ _ _ _ _ _ _ _ _ _ _ c.loop-run.invariant _ c.settle.new.work (first_front c.args.n c.args.at c.args.left c.args.a c.args.b c.args.ya c.args.yb c.args.work.now (omega (arith, c.if-left-eq0.false)) c.requires.0 c.requires.1 c.requires.2 c.requires.3 _ _ c.place-x.ensures c.cell_at-run.ensures _ _ c.section.ensures c.section.auto.work _ c.in-Lines.is) (turn_over_new _ _ _ _ _ _ _ _ _ _ _ _ _ c.loop-run.invariant (omega (arith, c.loop-run-test.true, c.top-last.ensures)) _ c.cell_at-next.ensures _ _ c.section-else-is_known.ensures c.section-else-is_known.auto.work _ c.in-Lines-section.is _ _ c.settle.ensures c.if-settle.false c.if-z-at-gt-MOST_LINES.true)
 
 pub section-loop-run-smaller : goal.section-loop-run-smaller
 section-loop-run-smaller t c =
@@ -201,7 +201,7 @@ section-loop-run-smaller t c =
 
 pub section-loop-run-preserved : goal.section-loop-run-preserved
 section-loop-run-preserved t c =
-    turn_new _ _ _ _ _ _ _ _ _ _ _ _ _ c.loop-run.invariant (omega (arith, c.loop-run-test.true, c.top-last.ensures)) _ c.cell_at-next.ensures _ _ c.section-else-is_known.ensures c.section-else-is_known.auto.work _ c.in-Lines-section.is _ _ c.settle.ensures c.if-settle.false c.settle.auto.work c.if-z-at-gt512.false
+    turn_new _ _ _ _ _ _ _ _ _ _ _ _ _ c.loop-run.invariant (omega (arith, c.loop-run-test.true, c.top-last.ensures)) _ c.cell_at-next.ensures _ _ c.section-else-is_known.ensures c.section-else-is_known.auto.work _ c.in-Lines-section.is _ _ c.settle.ensures c.if-settle.false c.settle.auto.work c.if-z-at-gt-MOST_LINES.false
 
 pub section-close-requires : goal.section-close-requires
 section-close-requires t c =
