@@ -14,8 +14,9 @@ import subprocess
 import sys
 
 KIT_TOO = {"and-false", "and-true", "or-false", "length-take-le"}
-# a lemma that has the name that a definition gets, in the one file that has both
+# a lemma that has the name that a definition gets, in the one file that has both; and the form of a range, which is no name
 ASIDE = {"crates/json/proofs/Complete.antt": {"is_digit": "is_digit_lem"}}
+ASIDE |= {f"crates/stored/{p}": {"low-high": "low-high"} for p in ("specs/Text.antt", "specs/Line.antt", "specs/Writing.antt", "src/lines.rt", "src/write.rt")}
 DECLARED = re.compile(r"\s*(?:(?:abbrev|unfoldable|pub|data|record)\s+)*([^\s(){}.;,λ\"]+)(?:\s+[({].*)?\s+:\s")
 RULESET = re.compile(r"\s*(?:pub )?ruleset ([^\s]+) =")
 WORD = r"[A-Za-z0-9_₀-₉'′-]"

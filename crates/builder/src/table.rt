@@ -44,7 +44,7 @@ fn high_in(d: usize, w: u64) -> u64
     }
 }
 
-// The range of dimension d of line i: proofs/Reading.antt, `Line-read`, says that it is that of the table's line.
+// The range of dimension d of line i: proofs/Reading.antt, `line_read`, says that it is that of the table's line.
 pub fn range(work: &[u64], i: usize, d: usize) -> u64
     requires { (i < 512) × (d < 6) × (16290 ≤ length work.now) }
     ensures { range_of result ≡ range_in d (get_or work.now (line_at i d) 0) }

@@ -1,13 +1,30 @@
 // What the programs read: a buffer that is filled from a reader or from a file.
 #![tactic(auto)]
 
-ghost use Rattle.std.specs.Prelude.{◌<◌, ◌≤◌, length, take, IfOk};
+ghost use Rattle.std.specs.Prelude.{◌≡◌, ◌<◌, ◌≤◌, length, take, IfOk};
 ghost use Rattle.std.specs.Io.KnownBytes.{Consumes, IsAtEnd};
 
 use std::fs::File;
 use std::io;
 use std::io::Read;
 use std::rt::Files;
+
+// Fills the buffer as far as the input goes, and says in `done` how many bytes came, also before a read that failed.
+fn fill<R: Read>(input: &mut R, buf: &mut [u8], done: &mut usize) -> io::Result<()>
+    requires { done.old ≡ 0 }
+    ensures within { done.new ≤ length buf.new }
+    ensures bytes { IfOk result (λ _. Consumes (R.remaining input.old) (R.remaining input.new) (take done.new buf.new)) }
+    ensures end { IfOk result (λ _. done.new < length buf.new → IsAtEnd (R.remaining input.new)) }
+{
+    while *done < buf.len() {
+        let n = input.read(&mut buf[*done..])?;
+        if n == 0 {
+            break;
+        }
+        *done += n;
+    }
+    Ok(())
+}
 
 // Fills the buffer as far as the input goes, and answers how many bytes came.
 pub fn read_full<R: Read>(input: &mut R, buf: &mut [u8]) -> io::Result<usize>
@@ -16,22 +33,17 @@ pub fn read_full<R: Read>(input: &mut R, buf: &mut [u8]) -> io::Result<usize>
     ensures end { IfOk result (λ n. n < length buf.new → IsAtEnd (R.remaining input.new)) }
 {
     let mut done = 0;
-    while done < buf.len() {
-        let n = input.read(&mut buf[done..])?;
-        if n == 0 {
-            break;
-        }
-        done += n;
-    }
+    fill(input, buf, &mut done)?;
     Ok(done)
 }
 
-// Fills `buf` from the file, and answers how many bytes came; none where it is missing or cannot be read.
+// Fills `buf` from the file, and answers how many bytes came: none where it is missing, and those before a read that failed.
 pub fn load(files: &impl Files, path: &str, buf: &mut [u8]) -> usize
     ensures { result ≤ length buf.new }
 {
-    match File::open(files, path) {
-        Ok(mut file) => read_full(&mut file, buf).unwrap_or(0),
-        Err(_) => 0,
+    let mut came = 0;
+    if let Ok(mut file) = File::open(files, path) {
+        let _ended = fill(&mut file, buf, &mut came).is_ok();
     }
+    came
 }

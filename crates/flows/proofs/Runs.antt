@@ -167,7 +167,7 @@ pub runs_none : (v : ℕ) (f : ℕ → Table) → runs_from 0 v f ≡ []
 unfolding runs_from
 runs_none v f = refl
 
--- THE ONE LIST OF RUNS: good runs that give each value are the runsFrom's
+-- THE ONE LIST OF RUNS: good runs that give each value are the ones of `runs_from`
 pub runs_unique : (rs : List Run) (k v w : ℕ) (f : ℕ → Table) → v + k ≡ w → Good w v rs → ((x : ℕ) → v ≤ x → x < w → f x ≡ look rs x) → runs_from k v f ≡ rs
 unfolding look
 runs_unique [] k v w f q g h = runs_gap k 0 v w k f (sym q) (omega arith) h ∙ runs_none w f

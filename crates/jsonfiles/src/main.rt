@@ -12,7 +12,6 @@ use values::Verdict;
 use values::clean::judge;
 
 // The numbers 4 to 6 of document 01, or 0.
-#[tactic(auto, unfolding(crate::specs::Answers::answer_of))]
 fn answer(s: &[u8], area: &mut [u64]) -> u8
     ensures { result ≡ answer_of s.now }
 {

@@ -31,7 +31,7 @@ then_line (Three a b c i) g = g a b c i
 unfoldable pub ends_of : ℕ → ℕ → ℕ → Ends
 ends_of lo hi at = cond (leb lo hi) (Between (word_of lo hi) at) NoRange
 
--- `low_high` of numbers to max, and the byte that closes it
+-- `low-high` of numbers to max, and the byte that closes it
 unfoldable pub range_at : ℕ → ℕ → List ℕ → ℕ → Ends
 range_at max close s at = then_ends (closed_at max 0x2D s at) (λ a i. then_ends (closed_at max close s i) (λ b j. ends_of a b j))
 

@@ -1,5 +1,5 @@
 -- A table as text (document 01, 'The table of a set of flows': "A line is six ranges in the order above, parted by tabs and ended by
--- LF. A range is always `low_high`, both ends given, decimal without leading zeros; address ends are dotted quads. .. The reply
+-- LF. A range is always `low-high`, both ends given, decimal without leading zeros; address ends are dotted quads. .. The reply
 -- buffer has exactly 36,864 bytes (512 x 72): the lines, then zeros.").
 use Rattle.std.specs.Prelude.{ℕ, ◌-◌, List, [], ◌∷◌, ◌++◌, length, get_or, replicate}
 use Rattle.text.specs.Written.{decimal, quad}
@@ -9,7 +9,7 @@ use Rattle.flows.specs.Table.{Range, ◌to◌, Line, Table}
 unfoldable pub nth : Line → ℕ → Range
 nth l d = get_or l d (0 to 0)
 
--- `low_high`
+-- `low-high`
 unfoldable pub range_text : Range → List ℕ
 range_text (lo to hi) = decimal lo ++ (0x2D ∷ decimal hi)
 

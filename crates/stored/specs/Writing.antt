@@ -2,7 +2,7 @@
 use Rattle.std.specs.Prelude.{ℕ, ◌/◌, ◌%◌, List, [], ◌∷◌, ◌++◌}
 use Rattle.text.specs.Written.{decimal, quad}
 
--- `low_high` of the range in a word, and the byte that closes it
+-- `low-high` of the range in a word, and the byte that closes it
 abbrev pub range_parts : ℕ → ℕ → List ℕ
 range_parts close x = decimal (x / 4294967296) ++ (0x2D ∷ (decimal (x % 4294967296) ++ (close ∷ [])))
 

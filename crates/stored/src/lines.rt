@@ -47,7 +47,7 @@ fn in_order(low: u32, high: u32, at: usize) -> Ends
     Ends::NoRange
 }
 
-// `low_high` of numbers to `max`, and the byte `close`.
+// `low-high` of numbers to `max`, and the byte `close`.
 fn range(s: &[u8], at: usize, max: u32, close: u8) -> Ends
     ensures { result ≡ range_at max close s.now at }
 {

@@ -8,7 +8,7 @@ ghost use Rattle.stored.specs.Writing.{range_parts, quad_parts, front_parts, bac
 use crate::lines::Line;
 use text::written;
 
-// `low_high` and the byte `close`.
+// `low-high` and the byte `close`.
 fn put_range(buf: &mut [u8], at: usize, x: u64, close: u8) -> usize
     requires { at + length (range_parts close x) ≤ length buf.old }
     ensures { Put buf.old at (range_parts close x) result buf.new }
