@@ -5,7 +5,7 @@ ghost use Rattle.std.specs.Prelude.{◌≡◌, ◌≢◌, ℕ, ◌<◌, ◌≤�
 ghost use Rattle.jsonfiles.specs.Answers.{answer_of};
 
 use files::load;
-use std::io::{BufWriter, Read, Write};
+use std::io::{BufWriter, Write};
 use std::rt::Files;
 use std::{io, str};
 use values::Verdict;

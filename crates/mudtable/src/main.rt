@@ -5,10 +5,7 @@ ghost use Rattle.std.specs.Prelude.{◌≡◌, ◌≢◌, ℕ, ◌<◌, ◌≤�
 
 use files::load;
 use gateway::Answer;
-use std::fs::File;
 use std::io;
-use std::io::Read;
-use std::rt::Files;
 
 fn put_head(rt: &impl Print, number: u8, count: usize) -> io::Result<()> {
     println!(rt; "{number}\t{count}")

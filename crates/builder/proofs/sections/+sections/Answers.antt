@@ -137,84 +137,96 @@ pub section-loop-run-init : goal.section-loop-run-init
 section-loop-run-init t c =
     let a = c.args in
     let sec = c.section in
-    turn_start a.n a.at a.left a.a a.b a.ya a.yb a.work.now (omega (arith, c.if-left-eq0.false)) c.requires.0 c.requires.1 c.requires.2 c.requires.3 _ _ c.place-x.ensures c.cell_at-run.ensures _ _ sec.ensures sec.auto.work _ c.in-Lines.is
+    record {
+      turn = turn_start a.n a.at a.left a.a a.b a.ya a.yb a.work.now (omega (arith, c.if-left-eq0.false)) c.requires.0 c.requires.1 c.requires.2 c.requires.3 _ _ c.place-x.ensures c.cell_at-run.ensures _ _ sec.ensures sec.auto.work _ c.in-Lines.is;
+      front = first_front c.args.n c.args.at c.args.left c.args.a c.args.b c.args.ya c.args.yb c.args.work.now (omega (arith, c.if-left-eq0.false)) c.requires.0 c.requires.1 c.requires.2 c.requires.3 _ _ c.place-x.ensures c.cell_at-run.ensures _ _ c.section.ensures c.section.auto.work _ c.in-Lines.is;
+    }
 
 pub section-overflow_add-x : goal.section-overflow_add-x
 section-overflow_add-x t c =
-    omega (arith, c.loop-run.invariant.place)
+    omega (arith, c.loop-run.invariant.turn.place)
 
 pub section-cell_at-next-requires : goal.section-cell_at-next-requires
 section-cell_at-next-requires t c =
-    next_fits _ _ _ _ _ _ _ _ _ _ _ _ _ c.loop-run.invariant (omega (arith, c.loop-run-test.true, c.top-last.ensures))
+    next_fits _ _ _ _ _ _ _ _ _ _ _ _ _ c.loop-run.invariant.turn (omega (arith, c.loop-run-test.true, c.top-last.ensures))
 
 pub section-loop-run-smaller-then-is_known : goal.section-loop-run-smaller-then-is_known
 section-loop-run-smaller-then-is_known t c =
-    less_on _ _ _ _ _ _ _ _ _ _ _ _ _ c.loop-run.invariant (omega (arith, c.loop-run-test.true, c.top-last.ensures)) _ c.cell_at-next.ensures _ c.longer-run.ensures
+    less_on _ _ _ _ _ _ _ _ _ _ _ _ _ c.loop-run.invariant.turn (omega (arith, c.loop-run-test.true, c.top-last.ensures)) _ c.cell_at-next.ensures _ c.longer-run.ensures
 
 pub section-loop-run-preserved-then-is_known : goal.section-loop-run-preserved-then-is_known
 section-loop-run-preserved-then-is_known t c =
     let known = c.is_known in
-    turn_pass _ _ _ _ _ _ _ _ _ _ _ _ _ c.loop-run.invariant (omega (arith, c.loop-run-test.true, c.top-last.ensures)) _ c.cell_at-next.ensures known.result known.ensures c.if-is_known.true _ c.longer-run.ensures
+    record {
+      turn = turn_pass _ _ _ _ _ _ _ _ _ _ _ _ _ c.loop-run.invariant.turn (omega (arith, c.loop-run-test.true, c.top-last.ensures)) _ c.cell_at-next.ensures known.result known.ensures c.if-is_known.true _ c.longer-run.ensures;
+      front = c.loop-run.invariant.front;
+    }
 
 pub section-section-requires-else-is_known : goal.section-section-requires-else-is_known
 section-section-requires-else-is_known t c =
-    let inv = c.loop-run.invariant in
+    let inv = c.loop-run.invariant.turn in
     (omega (arith, c.decreases, c.if-left-eq0.false), (omega (arith, c.requires.0), omega (arith, inv.base, inv.from_at, inv.to_end), omega (arith, inv.fits, inv.room, inv.long, c.if-left-eq0.false), turn_ready _ _ _ _ _ _ _ _ _ _ _ _ _ inv))
 
 pub section-shape_of-work-in_default-section : goal.section-shape_of-work-in_default-section
 section-shape_of-work-in_default-section t c =
-    c.section-else-is_known.auto.work ∙ c.loop-run.invariant.long ∙ c.section.auto.work
+    c.section-else-is_known.auto.work ∙ c.loop-run.invariant.turn.long ∙ c.section.auto.work
 
 pub section-returns-in_default-section : goal.section-returns-in_default-section
 section-returns-in_default-section t c =
-    turn_over _ _ _ _ _ _ _ _ _ _ _ _ _ c.loop-run.invariant _ c.section-else-is_known.new.work (first_front c.args.n c.args.at c.args.left c.args.a c.args.b c.args.ya c.args.yb c.args.work.now (omega (arith, c.if-left-eq0.false)) c.requires.0 c.requires.1 c.requires.2 c.requires.3 _ _ c.place-x.ensures c.cell_at-run.ensures _ _ c.section.ensures c.section.auto.work _ c.in-Lines.is) (turn_over_sec _ _ _ _ _ _ _ _ _ _ _ _ _ c.loop-run.invariant (omega (arith, c.loop-run-test.true, c.top-last.ensures)) _ c.cell_at-next.ensures _ _ c.section-else-is_known.ensures c.section-else-is_known.auto.work c.in_default-section.is)
+    turn_over _ _ _ _ _ _ _ _ _ _ _ _ _ c.loop-run.invariant.turn _ c.section-else-is_known.new.work c.loop-run.invariant.front (turn_over_sec _ _ _ _ _ _ _ _ _ _ _ _ _ c.loop-run.invariant.turn (omega (arith, c.loop-run-test.true, c.top-last.ensures)) _ c.cell_at-next.ensures _ _ c.section-else-is_known.ensures c.section-else-is_known.auto.work c.in_default-section.is)
 
 pub section-overflow_add-z : goal.section-overflow_add-z
 section-overflow_add-z t c =
-    let inv = c.loop-run.invariant in
-    omega (arith, turn_few _ _ _ _ _ _ _ _ _ _ _ _ _ c.loop-run.invariant (omega (arith, c.loop-run-test.true, c.top-last.ensures)) _ c.cell_at-next.ensures _ _ c.section-else-is_known.ensures c.section-else-is_known.auto.work _ c.in-Lines-section.is, inv.room, c.requires.2)
+    let inv = c.loop-run.invariant.turn in
+    omega (arith, turn_few _ _ _ _ _ _ _ _ _ _ _ _ _ c.loop-run.invariant.turn (omega (arith, c.loop-run-test.true, c.top-last.ensures)) _ c.cell_at-next.ensures _ _ c.section-else-is_known.ensures c.section-else-is_known.auto.work _ c.in-Lines-section.is, inv.room, c.requires.2)
 
 pub section-settle-requires : goal.section-settle-requires
 section-settle-requires t c =
-    let inv = c.loop-run.invariant in
-    (inv.to_end, omega arith, turn_inside _ _ _ _ _ _ _ _ _ _ _ _ _ c.loop-run.invariant (omega (arith, c.loop-run-test.true, c.top-last.ensures)) _ c.cell_at-next.ensures _ _ c.section-else-is_known.ensures c.section-else-is_known.auto.work _ c.in-Lines-section.is, omega (arith, c.if-left-eq0.false), inv.low, inv.high)
+    let inv = c.loop-run.invariant.turn in
+    (inv.to_end, omega arith, turn_inside _ _ _ _ _ _ _ _ _ _ _ _ _ c.loop-run.invariant.turn (omega (arith, c.loop-run-test.true, c.top-last.ensures)) _ c.cell_at-next.ensures _ _ c.section-else-is_known.ensures c.section-else-is_known.auto.work _ c.in-Lines-section.is, omega (arith, c.if-left-eq0.false), inv.low, inv.high)
 
 pub section-loop-run-smaller-then-settle : goal.section-loop-run-smaller-then-settle
 section-loop-run-smaller-then-settle t c =
-    less_on _ _ _ _ _ _ _ _ _ _ _ _ _ c.loop-run.invariant (omega (arith, c.loop-run-test.true, c.top-last.ensures)) _ c.cell_at-next.ensures _ c.longer-run-then-settle.ensures
+    less_on _ _ _ _ _ _ _ _ _ _ _ _ _ c.loop-run.invariant.turn (omega (arith, c.loop-run-test.true, c.top-last.ensures)) _ c.cell_at-next.ensures _ c.longer-run-then-settle.ensures
 
 pub section-loop-run-preserved-then-settle : goal.section-loop-run-preserved-then-settle
 section-loop-run-preserved-then-settle t c =
-    turn_keep _ _ _ _ _ _ _ _ _ _ _ _ _ c.loop-run.invariant (omega (arith, c.loop-run-test.true, c.top-last.ensures)) _ c.cell_at-next.ensures _ _ c.section-else-is_known.ensures c.section-else-is_known.auto.work _ c.in-Lines-section.is _ _ c.settle.ensures c.if-settle.true _ c.longer-run-then-settle.ensures
+    record {
+      turn = turn_keep _ _ _ _ _ _ _ _ _ _ _ _ _ c.loop-run.invariant.turn (omega (arith, c.loop-run-test.true, c.top-last.ensures)) _ c.cell_at-next.ensures _ _ c.section-else-is_known.ensures c.section-else-is_known.auto.work _ c.in-Lines-section.is _ _ c.settle.ensures c.if-settle.true _ c.longer-run-then-settle.ensures;
+      front = c.loop-run.invariant.front;
+    }
 
 pub section-shape_of-work-then-z-at-gt-MOST_LINES : goal.section-shape_of-work-then-z-at-gt-MOST_LINES
 section-shape_of-work-then-z-at-gt-MOST_LINES t c =
-    c.settle.auto.work ∙ c.section-else-is_known.auto.work ∙ c.loop-run.invariant.long ∙ c.section.auto.work
+    c.settle.auto.work ∙ c.section-else-is_known.auto.work ∙ c.loop-run.invariant.turn.long ∙ c.section.auto.work
 
 pub section-returns-then-z-at-gt-MOST_LINES : goal.section-returns-then-z-at-gt-MOST_LINES
 section-returns-then-z-at-gt-MOST_LINES t c =
-    turn_over _ _ _ _ _ _ _ _ _ _ _ _ _ c.loop-run.invariant _ c.settle.new.work (first_front c.args.n c.args.at c.args.left c.args.a c.args.b c.args.ya c.args.yb c.args.work.now (omega (arith, c.if-left-eq0.false)) c.requires.0 c.requires.1 c.requires.2 c.requires.3 _ _ c.place-x.ensures c.cell_at-run.ensures _ _ c.section.ensures c.section.auto.work _ c.in-Lines.is) (turn_over_new _ _ _ _ _ _ _ _ _ _ _ _ _ c.loop-run.invariant (omega (arith, c.loop-run-test.true, c.top-last.ensures)) _ c.cell_at-next.ensures _ _ c.section-else-is_known.ensures c.section-else-is_known.auto.work _ c.in-Lines-section.is _ _ c.settle.ensures c.if-settle.false c.if-z-at-gt-MOST_LINES.true)
+    turn_over _ _ _ _ _ _ _ _ _ _ _ _ _ c.loop-run.invariant.turn _ c.settle.new.work c.loop-run.invariant.front (turn_over_new _ _ _ _ _ _ _ _ _ _ _ _ _ c.loop-run.invariant.turn (omega (arith, c.loop-run-test.true, c.top-last.ensures)) _ c.cell_at-next.ensures _ _ c.section-else-is_known.ensures c.section-else-is_known.auto.work _ c.in-Lines-section.is _ _ c.settle.ensures c.if-settle.false c.if-z-at-gt-MOST_LINES.true)
 
 pub section-loop-run-smaller : goal.section-loop-run-smaller
 section-loop-run-smaller t c =
-    next_less _ _ _ _ _ _ _ _ _ _ _ _ _ c.loop-run.invariant (omega (arith, c.loop-run-test.true, c.top-last.ensures)) _ c.cell_at-next.ensures
+    next_less _ _ _ _ _ _ _ _ _ _ _ _ _ c.loop-run.invariant.turn (omega (arith, c.loop-run-test.true, c.top-last.ensures)) _ c.cell_at-next.ensures
 
 pub section-loop-run-preserved : goal.section-loop-run-preserved
 section-loop-run-preserved t c =
-    turn_new _ _ _ _ _ _ _ _ _ _ _ _ _ c.loop-run.invariant (omega (arith, c.loop-run-test.true, c.top-last.ensures)) _ c.cell_at-next.ensures _ _ c.section-else-is_known.ensures c.section-else-is_known.auto.work _ c.in-Lines-section.is _ _ c.settle.ensures c.if-settle.false c.settle.auto.work c.if-z-at-gt-MOST_LINES.false
+    record {
+      turn = turn_new _ _ _ _ _ _ _ _ _ _ _ _ _ c.loop-run.invariant.turn (omega (arith, c.loop-run-test.true, c.top-last.ensures)) _ c.cell_at-next.ensures _ _ c.section-else-is_known.ensures c.section-else-is_known.auto.work _ c.in-Lines-section.is _ _ c.settle.ensures c.if-settle.false c.settle.auto.work c.if-z-at-gt-MOST_LINES.false;
+      front = c.loop-run.invariant.front;
+    }
 
 pub section-close-requires : goal.section-close-requires
 section-close-requires t c =
-    let inv = c.loop-run.invariant in
+    let inv = c.loop-run.invariant.turn in
     (inv.to_end, omega (arith, inv.fits, inv.room, inv.long, inv.some), omega (arith, c.if-left-eq0.false), inv.low, inv.high)
 
 pub section-shape_of-work : goal.section-shape_of-work
 section-shape_of-work t c =
-    c.close.auto.work ∙ c.loop-run.invariant.long ∙ c.section.auto.work
+    c.close.auto.work ∙ c.loop-run.invariant.turn.long ∙ c.section.auto.work
 
 pub section-returns : goal.section-returns
 section-returns t c =
-    turn_done _ _ _ _ _ _ _ _ _ _ _ _ _ c.loop-run.invariant _ c.close.new.work (first_front c.args.n c.args.at c.args.left c.args.a c.args.b c.args.ya c.args.yb c.args.work.now (omega (arith, c.if-left-eq0.false)) c.requires.0 c.requires.1 c.requires.2 c.requires.3 _ _ c.place-x.ensures c.cell_at-run.ensures _ _ c.section.ensures c.section.auto.work _ c.in-Lines.is) (omega (arith, c.loop-run-test.false, c.top-last.ensures)) c.close.ensures
+    turn_done _ _ _ _ _ _ _ _ _ _ _ _ _ c.loop-run.invariant.turn _ c.close.new.work c.loop-run.invariant.front (omega (arith, c.loop-run-test.false, c.top-last.ensures)) c.close.ensures
 
 pub last_section-judged_at-run-requires : goal.last_section-judged_at-run-requires
 last_section-judged_at-run-requires t c = search scanning

@@ -1,5 +1,7 @@
 -- The dimensions that are left fall with each round of calls, from six to none.
 use Prim.Native.Nat.{◌+◌, ◌-◌, ◌*◌}
+use mathlib.Core.Path.{◌≡◌}
+use lib.ListN.{take}
 use Rattle.builder.specs.Cells.{top_of}
 use Rattle.builder.proofs.Levels.{Turn}
 use Rattle.builder.proofs.Ports.{Scan}
@@ -21,7 +23,10 @@ abbrev pub decreases-last_section-loop-run : goal.decreases-last_section-loop-ru
 decreases-last_section-loop-run l = 65535 - l.run.high
 
 abbrev pub invariant-section-loop-run : goal.invariant-section-loop-run
-invariant-section-loop-run l = Turn l.n l.at l.left l.a l.b l.ya l.yb l.initial.work l.work l.x l.run l.kept l.end
+invariant-section-loop-run l = record {
+  turn : Turn l.n l.at l.left l.a l.b l.ya l.yb l.initial.work l.work l.x l.run l.kept l.end;
+  front : take (3 * l.at) l.initial.work ≡ take (3 * l.at) l.fn.work;
+}
 
 abbrev pub decreases-section-loop-run : goal.decreases-section-loop-run
 decreases-section-loop-run l = top_of (6 - l.left) - l.run.high
