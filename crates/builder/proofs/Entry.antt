@@ -1,14 +1,13 @@
 -- From the caller's rules to the table: the builder's own rules in front, all live, leave the flows that the rules let through.
 use Prim.Native.Nat.{ℕ, zero, suc, ◌+◌, ◌-◌, ◌*◌, ◌/◌, ◌%◌, ◌≤◌, ◌<◌}
-use native.Mathlib.Numerals.{add-one}
 use native.Mathlib.Omega.{arith}
 use mathlib.Core.Path.{◌≡◌, refl, sym, ap, ap₂, ◌∙◌, subst}
 use mathlib.Core.Bool.{Bool, true, false, cond, ◌&&◌, ◌||◌, not, and-true}
 use mathlib.Core.List.{List, [], ◌∷◌, ◌++◌, append_assoc, append-nil}
 use lib.Dec.{eqb, ltb}
+use Rattle.std.specs.Prelude.{Option}
 use lib.ListN.{length, take, drop, get_or, set}
 use lib.Seq.{paste, paste-zero, paste-suc, take-take, take_at, drop_at, drop-drop, length-take-le}
-use borrow.Author.Rules.{rules}
 use borrow.Author.Tests.{ltb-true, ltb-false, eqb-true, eqb-false}
 use Rattle.flows.specs.Table.{Point, ◌to◌, in_range, within, Table, table_of}
 use Rattle.flows.specs.Flow.{widths, flow_numbers, is_flow}
@@ -18,31 +17,15 @@ use Rattle.text.proofs.Tests.{by_test}
 use Rattle.flows.proofs.Runs.{in_yes, in_low, in_high}
 use Rattle.flows.proofs.Meaning.{same_table}
 use Rattle.flows.proofs.FlowRules.{not_tcp_lem, no_ports_lem, three_drops, within_first, within_end}
-use Rattle.builder.specs.declared.Built.{Built}
 use Rattle.builder.specs.Encoding.{limits_of, name_limits, box_of, accepting, rules_from, rules_of, flow_words, table_words}
 use Rattle.builder.specs.Cells.{top_of, widths_left, accept_mask, picked, chosen, table_left, Cut, Ready}
 use Rattle.builder.specs.Promise.{BuiltIn}
 use Rattle.builder.specs.Post.{BuiltTo, AllCut}
 use Rattle.builder.proofs.Masks.{bit_mod, bit_div}
 
--- ---- copying the builder's own rules
-pub copy_start : (w : List ℕ) → w ≡ paste w 64 flow_words 0
-copy_start w = paste-zero w 64 flow_words
-
 flow_length : length flow_words ≡ 105
 unfolding flow_words
 flow_length = refl
-
-pub copy_more : (w₀ w : List ℕ) (i v : ℕ) → 169 ≤ length w₀ → i < 105 → w ≡ paste w₀ 64 flow_words i → v ≡ get_or flow_words i 0 → set w (64 + i) v ≡ paste w₀ 64 flow_words (i + 1)
-copy_more w₀ w i v h l e f =
-    ap₂ (λ (x : List ℕ) (y : ℕ). set x (64 + i) y) e f ∙ paste-suc w₀ 64 flow_words i 0 (omega arith) (omega (arith, flow_length)) ∙ ap (λ (j : ℕ). paste w₀ 64 flow_words j) (sym (add-one i))
-
-pub copy_end : (w₀ w : List ℕ) (i : ℕ) → i ≤ 105 → 105 ≤ i → w ≡ paste w₀ 64 flow_words i → w ≡ (take 64 w₀ ++ flow_words) ++ drop 169 w₀
-copy_end w₀ w i h l e =
-    let q : i ≡ 105 = omega arith in
-    e ∙ ap (λ (j : ℕ). paste w₀ 64 flow_words j) q ∙ ap (λ (x : List ℕ). (take 64 w₀ ++ x) ++ drop 169 w₀) (lib.Seq.take_all 105 flow_words (omega (arith, flow_length)))
-
-pub ruleset copying = (rules, copy_start, copy_more, copy_end)
 
 -- ---- what they say of a point
 none_in : (x : ℕ) → in_range 1 0 x ≡ false
@@ -193,7 +176,7 @@ ready_all m k ya yb w1 w2 h c e f g = record {
   others = g ∙ ap (λ (j : ℕ). accept_mask j (drop 1408 (take 1555 w2))) e;
 }
 
-pub built_in : (n : ℕ) (w w1 w2 w3 : List ℕ) (r : Built) → 16290 ≤ length w → length w2 ≡ length w → n ≤ 66 → w1 ≡ (take 64 w ++ flow_words) ++ drop 169 w → AllCut (n + 5) w1 w2
+pub built_in : (n : ℕ) (w w1 w2 w3 : List ℕ) (r : Option ℕ) → 16290 ≤ length w → length w2 ≡ length w → n ≤ 66 → w1 ≡ (take 64 w ++ flow_words) ++ drop 169 w → AllCut (n + 5) w1 w2
     → BuiltTo (table_left 6 (n + 5) (take 1555 w2) 18446744073709551615 18446744073709551615) 2357 0 w2 w3 r → BuiltIn (table_of widths (let_through (rules_of n w))) w3 r
 built_in n w w1 w2 w3 r long long2 h e c b =
     let t = table_left 6 (n + 5) (take 1555 w2) 18446744073709551615 18446744073709551615 in

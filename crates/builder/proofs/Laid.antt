@@ -1,14 +1,13 @@
 -- Lines as words: the words of a table tell its lines, and putting a run into them is putting it before the lines.
 use Prim.Native.Nat.{ℕ, zero, suc, ◌+◌, ◌-◌, ◌*◌, ◌/◌, ◌%◌, ◌^◌, ◌≤◌, ◌<◌}
-use native.Mathlib.Numerals.{add-one}
-use native.Mathlib.Nat.{le_of_suc-le-suc, not-suc-le-zero}
 use native.Mathlib.Omega.{arith}
 use mathlib.Core.Path.{◌≡◌, refl, sym, ap, ap₂, ◌∙◌, subst}
 use mathlib.Core.Bool.{Bool, true, false, cond, ◌&&◌}
 use mathlib.Core.List.{List, [], ◌∷◌, ◌++◌, append_assoc}
+use Rattle.std.specs.Cmp.Lexicographic.{pointwise}
 use lib.Dec.{eqb, ltb}
 use lib.ListN.{length, take, drop, get_or, set, length-append, length-set, get_or-append}
-use lib.Seq.{drop-cons, take_at, drop_at, set-append_left, get_or-set_same, get_or-set_other, ext_get_or, sets-eq}
+use lib.Seq.{take_at, drop_at, set-append_left, get_or-set_same, get_or-set_other, ext_get_or}
 use lib.Bits.{bit_or, or_shifted_r}
 use lib.Arith.{digits_div, digits_mod}
 use borrow.Author.Rules.{rules}
@@ -21,108 +20,23 @@ use Rattle.builder.proofs.Words.{top_most}
 use Rattle.builder.specs.Post.{same_words, stamp_n, ClosedTo, part}
 
 -- ---- a run's word
-top_small : (d : ℕ) → d < 3 → top_of d ≤ 255
+pub top_small : (d : ℕ) → d < 3 → top_of d ≤ 255
 unfolding top_of
 top_small d h = rw (ne_eqb d 3 (omega arith), le-ltb 3 d (omega arith)) (by_test (eqb d 1) (λ g. rw g (omega arith)) (λ g. rw g (omega arith)))
 
-top_ports : (d : ℕ) → 3 < d → top_of d ≤ 65535
+pub top_ports : (d : ℕ) → 3 < d → top_of d ≤ 65535
 unfolding top_of
 top_ports d h = rw (ne_eqb d 3 (omega arith), lt-ltb 3 d h) (omega arith)
 
-module _ (d lo hi : ℕ) (l : lo ≤ top_of d) (h : hi ≤ top_of d) where
-  pub fit_mul : lo * 256 < 18446744073709551616
-  fit_mul = omega (arith, top_most d)
-
-  pub fit_add : lo * 256 + hi < 18446744073709551616
-  fit_add = omega (arith, top_most d)
-
-  pub fit_mul_port : lo * 65536 < 18446744073709551616
-  fit_mul_port = omega (arith, top_most d)
-
-  pub fit_add_port : lo * 65536 + hi < 18446744073709551616
-  fit_add_port = omega (arith, top_most d)
-
-  pub fit_mul_address : lo * 4294967296 < 18446744073709551616
-  fit_mul_address = omega (arith, top_most d)
-
-  pub fit_add_address : lo * 4294967296 + hi < 18446744073709551616
-  fit_add_address = omega (arith, top_most d)
-
-  pub fit_direction : d ≡ 0 → (lo * 256 + hi) * 4294967296 < 18446744073709551616
-  fit_direction e = omega (arith, top_small d (omega arith))
-
-  pub fit_protocol : d ≡ 1 → (lo * 256 + hi) * 65536 < 18446744073709551616
-  fit_protocol e = omega (arith, top_small d (omega arith))
-
-  pub fit_remote : d ≡ 4 → (lo * 65536 + hi) * 4294967296 < 18446744073709551616
-  fit_remote e = omega (arith, top_ports d (omega arith))
-
-module _ (d lo hi : ℕ) where
-  pub word_direction : d ≡ 0 → (lo * 256 + hi) * 4294967296 ≡ word_of d lo hi
-  unfolding word_of base_of factor_of
-  word_direction e = rw e
-
-  pub word_protocol : d ≡ 1 → (lo * 256 + hi) * 65536 ≡ word_of d lo hi
-  unfolding word_of base_of factor_of
-  word_protocol e = rw e
-
-  pub word_opener : d ≡ 2 → lo * 256 + hi ≡ word_of d lo hi
-  unfolding word_of base_of factor_of
-  word_opener e = rw e (omega arith)
-
-  pub word_address : d ≡ 3 → lo * 4294967296 + hi ≡ word_of d lo hi
-  unfolding word_of base_of factor_of
-  word_address e = rw e (omega arith)
-
-  pub word_remote : d ≡ 4 → (lo * 65536 + hi) * 4294967296 ≡ word_of d lo hi
-  unfolding word_of base_of factor_of
-  word_remote e = rw e
-
-  pub word_device : d < 6 → (d ≡ 0 → ⊥) → (d ≡ 1 → ⊥) → (d ≡ 2 → ⊥) → (d ≡ 3 → ⊥) → (d ≡ 4 → ⊥) → lo * 65536 + hi ≡ word_of d lo hi
-  unfolding word_of base_of factor_of
-  word_device h a b c e f = let q : d ≡ 5 = omega arith in rw q (omega arith)
-
-pub ruleset run_words = (rules, fit_mul, fit_add, fit_mul_port, fit_add_port, fit_mul_address, fit_add_address, fit_direction, fit_protocol, fit_remote, word_direction, word_protocol, word_opener, word_address, word_remote, word_device)
+pub ruleset tops = (top_most, top_small, top_ports)
 
 -- ---- comparing
-same_step : (a b : List ℕ) (i : ℕ) → i < length a → i < length b → same_words (drop i a) (drop i b) ≡ (eqb (get_or a i 0) (get_or b i 0) && same_words (drop (i + 1) a) (drop (i + 1) b))
+pub same_is : (a b : List ℕ) → pointwise eqb a b ≡ same_words a b
 unfolding same_words
-same_step a b i ha hb = rw (add-one, drop-cons a i 0 ha, drop-cons b i 0 hb)
-
-pub same_more : (a b : List ℕ) (i : ℕ) → i < length a → length a ≡ length b → same_words (drop i a) (drop i b) ≡ same_words a b → get_or a i 0 ≡ get_or b i 0 → same_words (drop (i + 1) a) (drop (i + 1) b) ≡ same_words a b
-same_more a b i h l e q =
-    let s : same_words (drop (i + 1) a) (drop (i + 1) b) ≡ (eqb (get_or a i 0) (get_or b i 0) && same_words (drop (i + 1) a) (drop (i + 1) b)) = rw (eq-eqb (get_or a i 0) (get_or b i 0) q) in
-    s ∙ sym (same_step a b i h (omega arith)) ∙ e
-
-pub same_not : (a b : List ℕ) (i : ℕ) → i < length a → length a ≡ length b → same_words (drop i a) (drop i b) ≡ same_words a b → (get_or a i 0 ≡ get_or b i 0 → ⊥) → false ≡ same_words a b
-same_not a b i h l e q =
-    let s : false ≡ (eqb (get_or a i 0) (get_or b i 0) && same_words (drop (i + 1) a) (drop (i + 1) b)) = rw (ne_eqb (get_or a i 0) (get_or b i 0) q) in
-    s ∙ sym (same_step a b i h (omega arith)) ∙ e
-
-same_nil : (a b : List ℕ) (i : ℕ) → length a ≤ i → length a ≡ length b → same_words (drop i a) (drop i b) ≡ true
-unfolding same_words
-same_nil [] [] zero h e = refl
-same_nil [] [] (suc i) h e = refl
-same_nil [] (y ∷ b) i h e = absurd (omega arith)
-same_nil (x ∷ a) [] i h e = absurd (omega arith)
-same_nil (x ∷ a) (y ∷ b) zero h e = absurd (not-suc-le-zero h)
-same_nil (x ∷ a) (y ∷ b) (suc i) h e = same_nil a b i (le_of_suc-le-suc h) (omega arith)
-
-pub same_end : (a b : List ℕ) (i : ℕ) → length a ≤ i → length a ≡ length b → same_words (drop i a) (drop i b) ≡ same_words a b → true ≡ same_words a b
-same_end a b i h l e = sym (same_nil a b i h l) ∙ e
-
-and-false : (b : Bool) → (b && false) ≡ false
-and-false true = refl
-and-false false = refl
-
-pub same_apart : (a b : List ℕ) → ((length a ≡ length b) → ⊥) → false ≡ same_words a b
-unfolding same_words
-same_apart [] [] h = absurd (h refl)
-same_apart [] (y ∷ b) h = refl
-same_apart (x ∷ a) [] h = refl
-same_apart (x ∷ a) (y ∷ b) h = sym (ap (λ (t : Bool). eqb x y && t) (sym (same_apart a b (λ e. h (ap suc e)))) ∙ and-false (eqb x y))
-
-pub ruleset comparing = (rules, same_more, same_not, same_end, same_apart)
+same_is [] [] = refl
+same_is [] (y ∷ b) = refl
+same_is (x ∷ a) [] = refl
+same_is (x ∷ a) (y ∷ b) = ap (λ (t : Bool). eqb x y && t) (same_is a b)
 
 pub same_eq : (a b : List ℕ) → same_words a b ≡ true → a ≡ b
 unfolding same_words
@@ -155,16 +69,10 @@ closed_same a e z c x w r s t = record { same = sym t ∙ s; left = refl }
 pub closed_not : (a e z c x : ℕ) (w w' : List ℕ) (r : Bool) → r ≡ same_words (part a e w) (part e z w) → r ≡ false → w' ≡ stamp_n c x (e - a) a w → ClosedTo a e z c x w w' false
 closed_not a e z c x w w' r s t l = record { same = sym t ∙ s; left = l }
 
-pub blank_is : (w : List ℕ) (at : ℕ) → 3 * at + 3 ≤ length w → set (set (set w (3 * at) 0) (3 * at + 1) 0) (3 * at + 2) 0 ≡ (take (3 * at) w ++ (0 ∷ (0 ∷ (0 ∷ [])))) ++ drop (3 * at + 3) w
-blank_is w at h =
-    let q1 : 3 * at + 1 ≡ suc (3 * at) = omega arith in
-    let q2 : 3 * at + 2 ≡ suc (suc (3 * at)) = omega arith in
-    rw (q1, q2) (sets-eq (0 ∷ (0 ∷ (0 ∷ []))) w (3 * at) h)
-
 pub close_is : (d lo hi n a c x : ℕ) (w w' : List ℕ) → c ≡ column_of d → x ≡ word_of d lo hi → w' ≡ stamp_n c x n a w → w' ≡ stamp_n (column_of d) (word_of d lo hi) n a w
 close_is d lo hi n a c x w w' e f g = g ∙ ap₂ (λ (y z : ℕ). stamp_n y z n a w) e f
 
-pub ruleset stamping = (rules, stamp_more, stamp_end, close_is, closed_same, closed_not, blank_is)
+pub ruleset stamping = (rules, stamp_more, stamp_end, close_is, closed_same, closed_not)
 
 -- ---- the words of lines
 pub line_length : (d : ℕ) (l : Line) → length (line_words d l) ≡ 3
@@ -270,7 +178,7 @@ unfolding top_of
 room_protocol [] f = absurd (omega arith)
 room_protocol (lo to hi ∷ l) f =
     let q : get_or (line_words 2 (lo to hi ∷ l)) 0 0 ≡ word_of 2 lo hi + get_or (line_words 3 l) 0 0 = unfold column_of factor_of in put_here 2 lo hi l ∙ put_sum 2 lo hi (get_or (line_words 3 l) 0 0) (room_opener l) in
-    let w : word_of 2 lo hi ≡ lo * 256 + hi = sym (word_opener 2 lo hi refl) in
+    let w : word_of 2 lo hi ≡ lo * 256 + hi = unfold word_of base_of factor_of in (omega arith) in
     omega (arith, f.0, f.1, room_opener l)
 
 room_direction : (l : Line) → Fit 1 l → get_or (line_words 1 l) 0 0 < 4294967296
@@ -278,7 +186,7 @@ unfolding top_of
 room_direction [] f = absurd (omega arith)
 room_direction (lo to hi ∷ l) f =
     let q : get_or (line_words 1 (lo to hi ∷ l)) 0 0 ≡ word_of 1 lo hi + get_or (line_words 2 l) 0 0 = unfold column_of factor_of in put_here 1 lo hi l ∙ put_sum 1 lo hi (get_or (line_words 2 l) 0 0) (room_protocol l f.2) in
-    let w : word_of 1 lo hi ≡ (lo * 256 + hi) * 65536 = sym (word_protocol 1 lo hi refl) in
+    let w : word_of 1 lo hi ≡ (lo * 256 + hi) * 65536 = unfold word_of base_of factor_of in (omega arith) in
     omega (arith, f.0, f.1, room_protocol l f.2)
 
 room_address : (l : Line) → get_or (line_words 4 l) 1 0 < 1

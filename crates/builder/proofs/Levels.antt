@@ -5,18 +5,16 @@ use native.Mathlib.Omega.{arith}
 use mathlib.Core.Path.{◌≡◌, refl, sym, ap, ap₂, ◌∙◌, subst}
 use mathlib.Core.Bool.{Bool, true, false, cond}
 use mathlib.Core.List.{List, [], ◌∷◌, ◌++◌, append-nil}
+use Rattle.std.specs.Prelude.{Option, Some, None}
 use lib.ListN.{length, take, drop, get_or, length-append, length-take}
 use lib.Seq.{take-take, take_at, get_or-take, length-take-le}
 use lib.Bits.{bit_and}
-use borrow.Author.Rules.{rules}
 use Rattle.flows.specs.Table.{◌to◌, Table, Set, section, runs_from, put_before, lines_of, table_of}
 use Rattle.flows.specs.Table as flows
 use Rattle.flows.specs.Rules.{accepts}
 use Rattle.text.proofs.Tests.{by_test}
 use Rattle.flows.proofs.Runs.{Step, skip, join, fresh, step}
-use Rattle.builder.specs.declared.Built.{Built}
 use Rattle.builder.specs.declared.live.Run.{Run}
-use Rattle.builder.specs.declared.Built.TheVariants.{Lines, Over}
 use Rattle.builder.specs.Encoding.{low_of, high_of, column_of, word_of, table_words, line_words}
 use Rattle.builder.specs.Cells.{top_of, widths_left, mask_of, chosen, table_left, first_or, cells_at, Cell, Chain, Ready}
 use Rattle.builder.specs.Post.{BuiltTo, CellRead, Have, Known, Longer, same_words, stamp_n, part, ClosedTo}
@@ -123,7 +121,7 @@ link_of zero n d R s z v p k = absurd k
 link_of (suc c) n d R s z v p k = record { count = c; cell = k.0; rest = k.1 }
 
 -- a cell's two live sets, and again the same two
-cell_have : {a b x : ℕ} {w : List ℕ} (f : ℕ → ℕ → Table) (cell : Run) → CellRead a b x w cell → Have f (f cell.a cell.b) cell
+cell_have : {a b x : ℕ} {w : List ℕ} (f : ℕ → ℕ → Table) (cell : Run) → CellRead a b x w cell → Have f (f cell.live.first cell.live.others) cell
 cell_have f cell r = (refl, ap₂ f (r.third ∙ sym r.first) (r.fourth ∙ sym r.second))
 
 -- ---- the state of the loop over the cells
@@ -137,7 +135,8 @@ pub record Turn (n at left a b ya yb : ℕ) (w₀ work : List ℕ) (x : ℕ) (ru
   pub some : 0 < left
   pub most : left ≤ 6
   pub base : 2357 ≤ at
-  pub fits : 3 * (at + 512 * left) + 3 ≤ length w₀
+  pub fits : 3 * (at + 512 * left) + 3 ≤ 16290
+  pub whole : length w₀ ≡ 16290
   pub from_at : at ≤ kept
   pub to_end : kept ≤ end
   pub room : end ≤ at + 512
@@ -146,7 +145,7 @@ pub record Turn (n at left a b ya yb : ℕ) (w₀ work : List ℕ) (x : ℕ) (ru
   pub long : length work ≡ length w₀
   pub place : x ≤ 7069
 
-module _ (n at left a b ya yb : ℕ) (w₀ work : List ℕ) (x : ℕ) (run : Run) (kept end : ℕ) (t : Turn n at left a b ya yb w₀ work x run kept end) where
+module _ {n at left a b ya yb : ℕ} {w₀ work : List ℕ} {x : ℕ} {run : Run} {kept end : ℕ} (t : Turn n at left a b ya yb w₀ work x run kept end) where
   abbrev R : List ℕ
   R = take 1555 w₀
 
@@ -154,7 +153,7 @@ module _ (n at left a b ya yb : ℕ) (w₀ work : List ℕ) (x : ℕ) (run : Run
   d6 = omega (arith, t.some, t.most)
 
   at_fits : 3 * at ≤ length w₀
-  at_fits = omega (arith, t.fits)
+  at_fits = omega (arith, t.fits, t.whole)
 
   turn_front : take (3 * at) work ≡ take (3 * at) w₀
   turn_front = state_front (sec_of left n R a b) (suc (top_of (6 - left))) (table_left left n R a b) (6 - left) at w₀ at_fits work kept end run.low run.high t.pend t.state
@@ -177,6 +176,7 @@ module _ (n at left a b ya yb : ℕ) (w₀ work : List ℕ) (x : ℕ) (run : Run
     most = t.most;
     base = t.base;
     fits = t.fits;
+    whole = t.whole;
     from_at = omega (arith, s.at_kept);
     to_end = omega (arith, s.at_end);
     room = s.room;
@@ -187,32 +187,32 @@ module _ (n at left a b ya yb : ℕ) (w₀ work : List ℕ) (x : ℕ) (run : Run
   }
 
   -- the loop is over
-  pub turn_done : (we w' : List ℕ) → take (3 * at) w₀ ≡ take (3 * at) we → top_of (6 - left) ≤ run.high → w' ≡ stamp_n (column_of (6 - left)) (word_of (6 - left) run.low run.high) (end - kept) kept work → BuiltTo (table_left left n (take 1555 we) a b) at (6 - left) we w' (Lines (end - at))
-  turn_done we w' fe h e =
+  pub turn_done : {we w' : List ℕ} → take (3 * at) w₀ ≡ take (3 * at) we → top_of (6 - left) ≤ run.high → w' ≡ stamp_n (column_of (6 - left)) (word_of (6 - left) run.low run.high) (end - kept) kept work → BuiltTo (table_left left n (take 1555 we) a b) at (6 - left) we w' (Some (end - at))
+  turn_done {we} {w'} fe h e =
       let f = finish (sec_of left n R a b) (suc (top_of (6 - left))) (table_left left n R a b) (6 - left) at w₀ at_fits work kept end run.low run.high t.pend t.state (omega arith) in
       let r : take 1555 w₀ ≡ take 1555 we = same_rules at we w₀ t.base fe in
-      subst (λ (Q : List ℕ). BuiltTo (table_left left n Q a b) at (6 - left) we w' (Lines (end - at))) r
+      subst (λ (Q : List ℕ). BuiltTo (table_left left n Q a b) at (6 - left) we w' (Some (end - at))) r
       (record { answer = f.answer; held = λ o. ap (λ (l : List ℕ). take (3 * (at + length (table_left left n R a b))) l) e ∙ f.held o ∙ ap (λ (l : List ℕ). l ++ table_words (6 - left) (table_left left n R a b)) fe })
 
-  pub turn_over : (we w' : List ℕ) → take (3 * at) w₀ ≡ take (3 * at) we → 512 < length (table_left left n R a b) → BuiltTo (table_left left n (take 1555 we) a b) at (6 - left) we w' Over
-  turn_over we w' fe h = subst (λ (Q : List ℕ). BuiltTo (table_left left n Q a b) at (6 - left) we w' Over) (same_rules at we w₀ t.base fe) (is_over (table_left left n R a b) at (6 - left) we w' h)
+  pub turn_over : {we w' : List ℕ} → take (3 * at) w₀ ≡ take (3 * at) we → 512 < length (table_left left n R a b) → BuiltTo (table_left left n (take 1555 we) a b) at (6 - left) we w' None
+  turn_over {we} {w'} fe h = subst (λ (Q : List ℕ). BuiltTo (table_left left n Q a b) at (6 - left) we w' None) (same_rules at we w₀ t.base fe) (is_over (table_left left n R a b) at (6 - left) we w' h)
 
   -- the next cell
-  module _ (more : run.high < top_of (6 - left)) where
+  module _ {last : ℕ} (is_last : last ≡ top_of (6 - left)) (below : run.high < last) where
+    more : run.high < top_of (6 - left)
+    more = omega arith
+
     next_chain : Link n (6 - left) R w₀ (cells_at (6 - left + 1)) (run.high + 1) (x + 3)
     next_chain = link_of t.count n (6 - left) R w₀ (cells_at (6 - left + 1)) (run.high + 1) (x + 3) (t.chain more)
 
     pub next_inside : x + 3 + 3 ≤ 7069
     next_inside = omega (arith, next_chain.cell.inside, cells_between (6 - left) d6)
 
-    pub next_fits : x + 3 + 3 ≤ length work
-    next_fits = omega (arith, next_inside, t.long, t.fits, t.base)
-
     next_same : (q : ℕ) → q < 7069 → get_or work q 0 ≡ get_or w₀ q 0
     next_same q h = same_at at w₀ work q (omega (arith, t.base)) turn_front
 
     -- what is read of it
-    module _ (cell : Run) (read : CellRead a b (x + 3) work cell) where
+    module _ {cell : Run} (read : CellRead a b (x + 3) work cell) where
       up_is : cell.high ≡ high_of (get_or w₀ (x + 3) 0)
       up_is = read.high ∙ ap high_of (next_same (x + 3) (omega (arith, next_inside)))
 
@@ -220,7 +220,7 @@ module _ (n at left a b ya yb : ℕ) (w₀ work : List ℕ) (x : ℕ) (run : Run
       up_more = omega (arith, next_chain.cell.rises, next_chain.cell.below, up_is)
 
       sec : Table
-      sec = table_left (left - 1) n R cell.a cell.b
+      sec = table_left (left - 1) n R cell.live.first cell.live.others
 
       next_sec : (y : ℕ) → run.high < y → y ≤ cell.high → sec_of left n R a b y ≡ sec
       unfolding sec
@@ -237,8 +237,8 @@ module _ (n at left a b ya yb : ℕ) (w₀ work : List ℕ) (x : ℕ) (run : Run
       pub next_less : top_of (6 - left) - cell.high < top_of (6 - left) - run.high
       next_less = omega (arith, up_more)
 
-      pub less_on : (longer : Run) → Longer run cell longer → top_of (6 - left) - longer.high < top_of (6 - left) - run.high
-      less_on longer l = omega (arith, up_more, l.high)
+      pub less_on : {longer : Run} → Longer run cell longer → top_of (6 - left) - longer.high < top_of (6 - left) - run.high
+      less_on {longer} l = omega (arith, up_more, l.high)
 
       -- its section is the pending one, and the run goes on
       module _ (w' : List ℕ) (longer : Run) (l : Longer run cell longer) (e : sec ≡ t.pend)
@@ -252,30 +252,33 @@ module _ (n at left a b ya yb : ℕ) (w₀ work : List ℕ) (x : ℕ) (run : Run
             (next_chained longer.high l.high) (omega (arith, next_inside))
 
       -- it is known to be the pending one
-      pub turn_pass : (ok : Bool) → (ok ≡ true → Known run cell) → ok ≡ true → (longer : Run) → Longer run cell longer → Turn n at left a b ya yb w₀ work (x + 3) longer kept end
+      pub turn_pass : {ok : Bool} → (ok ≡ true → Known run cell) → ok ≡ true → {longer : Run} → Longer run cell longer → Turn n at left a b ya yb w₀ work (x + 3) longer kept end
       unfolding sec
-      turn_pass ok g y longer l =
+      turn_pass {ok} g y {longer} l =
           let e : sec ≡ t.pend = g y (table_left (left - 1) n R) t.pend t.have in
           turn_on work longer l e
           (pass (sec_of left n R a b) (suc (top_of (6 - left))) (table_left left n R a b) (6 - left) at w₀ at_fits work kept end run.low run.high t.pend t.state cell.high sec up_more.0 (omega (arith, up_more)) next_sec (sym e))
 
       -- it is built behind the pending run
-      module _ (w' : List ℕ) (r : Built) (bt : BuiltTo (table_left (left - 1) n (take 1555 work) cell.a cell.b) end (6 - (left - 1)) work w' r) (same_long : length w' ≡ length work) where
+      module _ {w' : List ℕ} {r : Option ℕ} (bt : BuiltTo (table_left (left - 1) n (take 1555 work) cell.live.first cell.live.others) end (6 - (left - 1)) work w' r) (all : length w' ≡ 16290) where
+        same_long : length w' ≡ length work
+        same_long = all ∙ sym (t.long ∙ t.whole)
+
         built : BuiltTo sec end (suc (6 - left)) work w' r
         unfolding sec
         built =
             let q : 6 - (left - 1) ≡ suc (6 - left) = omega (arith, t.some, t.most) in
-            subst (λ (d : ℕ). BuiltTo (table_left (left - 1) n R cell.a cell.b) end d work w' r) q
-            (subst (λ (Q : List ℕ). BuiltTo (table_left (left - 1) n Q cell.a cell.b) end (6 - (left - 1)) work w' r) (same_rules at w₀ work t.base turn_front) bt)
+            subst (λ (d : ℕ). BuiltTo (table_left (left - 1) n R cell.live.first cell.live.others) end d work w' r) q
+            (subst (λ (Q : List ℕ). BuiltTo (table_left (left - 1) n Q cell.live.first cell.live.others) end (6 - (left - 1)) work w' r) (same_rules at w₀ work t.base turn_front) bt)
 
         fit_s : Fits (suc (6 - left)) sec
         unfolding sec
-        fit_s = fits_left left n R cell.a cell.b t.some t.most
+        fit_s = fits_left left n R cell.live.first cell.live.others t.some t.most
 
-        pub turn_over_sec : r ≡ Over → 512 < length (table_left left n R a b)
+        pub turn_over_sec : r ≡ None → 512 < length (table_left left n R a b)
         turn_over_sec o = over_sec (sec_of left n R a b) (suc (top_of (6 - left))) (table_left left n R a b) (6 - left) at w₀ at_fits work kept end run.low run.high t.pend t.state cell.high sec up_more.0 (omega (arith, up_more)) next_sec fit_s w' r built same_long o
 
-        module _ (m : ℕ) (l : r ≡ Lines m) where
+        module _ {m : ℕ} (l : r ≡ Some m) where
           pub turn_few : m ≤ 512
           turn_few = let q = lines_of_lem sec m r built.answer l in omega (arith, q.0, q.1)
 
@@ -283,12 +286,12 @@ module _ (n at left a b ya yb : ℕ) (w₀ work : List ℕ) (x : ℕ) (run : Run
           turn_inside =
               let q = lines_of_lem sec m r built.answer l in
               let h : length (take (3 * (end + length sec)) w') ≡ 3 * (end + length sec) =
-              ap length (built.held q.1) ∙ length-append (take (3 * end) work) (table_words (suc (6 - left)) sec) ∙ omega (arith, length-take-le (3 * end) work (omega (arith, t.long, t.fits, t.room, t.some)), table_length (suc (6 - left)) sec) in
+              ap length (built.held q.1) ∙ length-append (take (3 * end) work) (table_words (suc (6 - left)) sec) ∙ omega (arith, length-take-le (3 * end) work (omega (arith, t.long, t.fits, t.whole, t.room, t.some)), table_length (suc (6 - left)) sec) in
               omega (arith, q.0, h, length-take (3 * (end + length sec)) w')
 
-          module _ (w'' : List ℕ) (ok : Bool) (k : ClosedTo kept end (end + m) (column_of (6 - left)) (word_of (6 - left) run.low run.high) w' w'' ok) where
-            pub turn_keep : ok ≡ true → (longer : Run) → Longer run cell longer → Turn n at left a b ya yb w₀ w'' (x + 3) longer kept end
-            turn_keep y longer g =
+          module _ {w'' : List ℕ} {ok : Bool} (k : ClosedTo kept end (end + m) (column_of (6 - left)) (word_of (6 - left) run.low run.high) w' w'' ok) where
+            pub turn_keep : ok ≡ true → {longer : Run} → Longer run cell longer → Turn n at left a b ya yb w₀ w'' (x + 3) longer kept end
+            turn_keep y {longer} g =
                 let c : same_words (part kept end w') (part end (end + m) w') ≡ true = sym k.same ∙ y in
                 let e : w'' ≡ w' = k.left ∙ ap (λ (z : Bool). cond z w' (stamp_n (column_of (6 - left)) (word_of (6 - left) run.low run.high) (end - kept) kept w')) y in
                 let s = keep (sec_of left n R a b) (suc (top_of (6 - left))) (table_left left n R a b) (6 - left) at w₀ at_fits work kept end run.low run.high t.pend t.state cell.high sec up_more.0 (omega (arith, up_more)) next_sec fit_s w' r built same_long m l c in
@@ -299,9 +302,10 @@ module _ (n at left a b ya yb : ℕ) (w₀ work : List ℕ) (x : ℕ) (run : Run
             pub turn_over_new : ok ≡ false → 512 < end + m - at → 512 < length (table_left left n R a b)
             turn_over_new y h = over_new (sec_of left n R a b) (suc (top_of (6 - left))) (table_left left n R a b) (6 - left) at w₀ at_fits work kept end run.low run.high t.pend t.state cell.high sec up_more.0 (omega (arith, up_more)) next_sec fit_s w' r built same_long m l (sym k.same ∙ y) h
 
-            pub turn_new : ok ≡ false → length w'' ≡ length w' → end + m - at ≤ 512 → Turn n at left a b ya yb w₀ w'' (x + 3) cell end (end + m)
+            pub turn_new : ok ≡ false → length w'' ≡ 16290 → end + m - at ≤ 512 → Turn n at left a b ya yb w₀ w'' (x + 3) cell end (end + m)
             unfolding sec
-            turn_new y g h =
+            turn_new y f h =
+                let g : length w'' ≡ length w' = f ∙ sym all in
                 let e : w'' ≡ stamp_n (column_of (6 - left)) (word_of (6 - left) run.low run.high) (end - kept) kept w' = k.left ∙ ap (λ (z : Bool). cond z w' (stamp_n (column_of (6 - left)) (word_of (6 - left) run.low run.high) (end - kept) kept w')) y in
                 let s = new (sec_of left n R a b) (suc (top_of (6 - left))) (table_left left n R a b) (6 - left) at w₀ at_fits work kept end run.low run.high t.pend t.state cell.high sec up_more.0 (omega (arith, up_more)) next_sec fit_s w' r built same_long m l w'' (sym k.same ∙ y) e g h in
                 let q : suc run.high ≡ cell.low = omega (arith, read.low, ap low_of (next_same (x + 3) (omega (arith, next_inside))), next_chain.cell.low) in
@@ -310,16 +314,19 @@ module _ (n at left a b ya yb : ℕ) (w₀ work : List ℕ) (x : ℕ) (run : Run
                 (next_chained cell.high refl) (omega (arith, next_inside))
 
 -- ---- where the loop begins
-module _ (n at left a b ya yb : ℕ) (we : List ℕ) (some : 0 < left) (most : left ≤ 6) (base : 2357 ≤ at) (fits : 3 * (at + 512 * left) + 3 ≤ length we) (ready : Ready n ya yb (take 1555 we) we) where
+module _ {n at left ya yb : ℕ} {we : List ℕ} (ready : Ready n ya yb (take 1555 we) we) (whole : length we ≡ 16290) (most : left ≤ 6) (base : 2357 ≤ at) (fits : 3 * (at + 512 * left) + 3 ≤ 16290) (not_none : left ≡ 0 → ⊥) where
+  some : 0 < left
+  some = omega arith
+
   first_cell : Link n (6 - left) (take 1555 we) we (cells_at (6 - left + 1)) 0 (cells_at (6 - left))
   first_cell = let c = ready.cells (6 - left) (omega arith) in link_of c.count n (6 - left) (take 1555 we) we (cells_at (6 - left + 1)) 0 (cells_at (6 - left)) c.chain
 
   pub first_inside : cells_at (6 - left) + 3 ≤ 7069
   first_inside = omega (arith, first_cell.cell.inside, cells_between (6 - left) (omega arith))
 
-  module _ (x : ℕ) (run : Run) (ex : x ≡ cells_at (6 - left)) (read : CellRead a b x we run)
-      (w₀ : List ℕ) (r : Built) (bt : BuiltTo (table_left (left - 1) n (take 1555 we) run.a run.b) at (6 - (left - 1)) we w₀ r) (same_long : length w₀ ≡ length we) where
-    first_sec : (y : ℕ) → y ≤ run.high → sec_of left n (take 1555 we) a b y ≡ table_left (left - 1) n (take 1555 we) run.a run.b
+  module _ {a b x : ℕ} {run : Run} (ex : x ≡ cells_at (6 - left)) (read : CellRead a b x we run)
+      {w₀ : List ℕ} {r : Option ℕ} (bt : BuiltTo (table_left (left - 1) n (take 1555 we) run.live.first run.live.others) at (6 - (left - 1)) we w₀ r) (all : length w₀ ≡ 16290) where
+    first_sec : (y : ℕ) → y ≤ run.high → sec_of left n (take 1555 we) a b y ≡ table_left (left - 1) n (take 1555 we) run.live.first run.live.others
     first_sec y h =
         let c = first_cell.cell in
         let q : run.high ≡ high_of (get_or we (cells_at (6 - left)) 0) = read.high ∙ ap (λ (z : ℕ). high_of (get_or we z 0)) ex in
@@ -327,19 +334,19 @@ module _ (n at left a b ya yb : ℕ) (we : List ℕ) (some : 0 < left) (most : l
         ∙ ap₂ (λ (p q : ℕ). table_left (left - 1) n (take 1555 we) p q)
         (ap (λ (z : ℕ). bit_and a (get_or we (z + 1) 0)) (sym ex) ∙ sym read.first) (ap (λ (z : ℕ). bit_and b (get_or we (z + 2) 0)) (sym ex) ∙ sym read.second)
 
-    pub first_over : (w' : List ℕ) → r ≡ Over → BuiltTo (table_left left n (take 1555 we) a b) at (6 - left) we w' Over
-    first_over w' o =
-        let s : sec_of left n (take 1555 we) a b 0 ≡ table_left (left - 1) n (take 1555 we) run.a run.b = first_sec 0 (omega arith) in
+    pub first_over : {w' : List ℕ} → r ≡ None → BuiltTo (table_left left n (take 1555 we) a b) at (6 - left) we w' None
+    first_over {w'} o =
+        let s : sec_of left n (take 1555 we) a b 0 ≡ table_left (left - 1) n (take 1555 we) run.live.first run.live.others = first_sec 0 (omega arith) in
         let l = Rattle.flows.proofs.Meaning.runs_length (suc (top_of (6 - left))) 0 (sec_of left n (take 1555 we) a b) 0 (omega arith) (omega arith) in
         is_over (table_left left n (take 1555 we) a b) at (6 - left) we w'
-        (omega (arith, over_of (table_left (left - 1) n (take 1555 we) run.a run.b) r bt.answer o, l, ap length s, ap length (left_whole left n (take 1555 we) a b some)))
+        (omega (arith, over_of (table_left (left - 1) n (take 1555 we) run.live.first run.live.others) r bt.answer o, l, ap length s, ap length (left_whole left n (take 1555 we) a b some)))
 
-    module _ (m : ℕ) (l : r ≡ Lines m) where
+    module _ {m : ℕ} (l : r ≡ Some m) where
       pub first_few : m ≤ 512
-      first_few = let q = lines_of_lem (table_left (left - 1) n (take 1555 we) run.a run.b) m r bt.answer l in omega (arith, q.0, q.1)
+      first_few = let q = lines_of_lem (table_left (left - 1) n (take 1555 we) run.live.first run.live.others) m r bt.answer l in omega (arith, q.0, q.1)
 
       pub first_front : take (3 * at) w₀ ≡ take (3 * at) we
-      first_front = before_kept (table_left (left - 1) n (take 1555 we) run.a run.b) at (6 - (left - 1)) we w₀ r m (omega arith) bt l
+      first_front = before_kept (table_left (left - 1) n (take 1555 we) run.live.first run.live.others) at (6 - (left - 1)) we w₀ r m (omega arith) bt l
 
       pub turn_start : Turn n at left a b ya yb w₀ w₀ x run at (at + m)
       turn_start =
@@ -350,15 +357,15 @@ module _ (n at left a b ya yb : ℕ) (we : List ℕ) (some : 0 < left) (most : l
           let hm : run.high ≤ top_of (6 - left) = omega (arith, q, first_cell.cell.below) in
           let fr = first_front in
           let rr : take 1555 w₀ ≡ take 1555 we = same_rules at we w₀ base fr in
-          let st = start (sec_of left n R a b) (suc (top_of (6 - left))) (table_left left n R a b) (6 - left) at we w₀ r m run.high (table_left (left - 1) n R run.a run.b) (omega arith) (left_whole left n R a b some) (omega arith) first_sec (fits_left left n R run.a run.b some most)
-          (subst (λ (d : ℕ). BuiltTo (table_left (left - 1) n R run.a run.b) at d we w₀ r) d6 bt) l in
+          let st = start (sec_of left n R a b) (suc (top_of (6 - left))) (table_left left n R a b) (6 - left) at we w₀ r m run.high (table_left (left - 1) n R run.live.first run.live.others) (omega arith) (left_whole left n R a b some) (omega arith) first_sec (fits_left left n R run.live.first run.live.others some most)
+          (subst (λ (d : ℕ). BuiltTo (table_left (left - 1) n R run.live.first run.live.others) at d we w₀ r) d6 bt) l in
           let bet = cells_between (6 - left) (omega arith) in
           record {
-            pend = table_left (left - 1) n (take 1555 w₀) run.a run.b;
+            pend = table_left (left - 1) n (take 1555 w₀) run.live.first run.live.others;
             have = cell_have (table_left (left - 1) n (take 1555 w₀)) run read;
             ready = subst (λ (Q : List ℕ). Ready n ya yb Q w₀) (sym rr) (ready_same n ya yb at R we w₀ base fr ready);
-            state = subst (λ (Q : List ℕ). State (sec_of left n Q a b) (suc (top_of (6 - left))) (table_left left n Q a b) (6 - left) at w₀ w₀ at (at + m) run.low run.high (table_left (left - 1) n Q run.a run.b)) (sym rr)
-                (subst (λ (u : ℕ). State (sec_of left n R a b) (suc (top_of (6 - left))) (table_left left n R a b) (6 - left) at w₀ w₀ at (at + m) u run.high (table_left (left - 1) n R run.a run.b)) z st);
+            state = subst (λ (Q : List ℕ). State (sec_of left n Q a b) (suc (top_of (6 - left))) (table_left left n Q a b) (6 - left) at w₀ w₀ at (at + m) run.low run.high (table_left (left - 1) n Q run.live.first run.live.others)) (sym rr)
+                (subst (λ (u : ℕ). State (sec_of left n R a b) (suc (top_of (6 - left))) (table_left left n R a b) (6 - left) at w₀ w₀ at (at + m) u run.high (table_left (left - 1) n R run.live.first run.live.others)) z st);
             count = first_cell.count;
             chain = λ h. subst (λ (Q : List ℕ). Chain first_cell.count n (6 - left) Q w₀ (cells_at (6 - left + 1)) (run.high + 1) (x + 3)) (sym rr)
                 (chain_same first_cell.count n (6 - left) R we w₀ (cells_at (6 - left + 1)) (run.high + 1) (x + 3) (λ p i j. same_at at we w₀ p (omega (arith, bet)) fr)
@@ -367,7 +374,8 @@ module _ (n at left a b ya yb : ℕ) (we : List ℕ) (some : 0 < left) (most : l
             some = some;
             most = most;
             base = base;
-            fits = omega (arith, same_long);
+            fits = fits;
+            whole = all;
             from_at = omega arith;
             to_end = omega arith;
             room = omega (arith, first_few);
@@ -378,31 +386,29 @@ module _ (n at left a b ya yb : ℕ) (we : List ℕ) (some : 0 < left) (most : l
           }
 
 -- ---- no accepting rule, no dimension, and one
-pub none_is : (left n at a b ya yb : ℕ) (w : List ℕ) (ok : Bool) → Ready n ya yb (take 1555 w) w → (ok ≡ true → (bit_and a ya ≡ 0) × (bit_and b yb ≡ 0)) → ok ≡ true → BuiltTo (table_left left n (take 1555 w) a b) at (6 - left) w w (Lines 0)
+pub none_is : {n at ya yb : ℕ} {w : List ℕ} {ok : Bool} (left a b : ℕ) → Ready n ya yb (take 1555 w) w → (ok ≡ true → (bit_and a ya ≡ 0) × (bit_and b yb ≡ 0)) → ok ≡ true → BuiltTo (table_left left n (take 1555 w) a b) at (6 - left) w w (Some 0)
 unfolding table_words
-none_is left n at a b ya yb w ok r g e =
+none_is {n} {at} {ya} {yb} {w} {ok} left a b r g e =
     let q : table_left left n (take 1555 w) a b ≡ [] = none_left left n a b ya yb (take 1555 w) w r (g e).0 (g e).1 in
     rw q (record { answer = refl; held = λ o. rw add-zero (sym (append-nil (take (3 * at) w))) })
 
-pub leaf_is : (left n at a b : ℕ) (w w' : List ℕ) (r : Built) → left ≡ 0 → BuiltTo (table_left 0 n (take 1555 w) a b) at 6 w w' r → BuiltTo (table_left left n (take 1555 w) a b) at (6 - left) w w' r
-leaf_is left n at a b w w' r e g = subst (λ (x : ℕ). BuiltTo (table_left x n (take 1555 w) a b) at (6 - x) w w' r) (sym e) g
+pub leaf_is : {left at : ℕ} {w w' : List ℕ} {r : Option ℕ} (n a b : ℕ) → left ≡ 0 → BuiltTo (table_left 0 n (take 1555 w) a b) at 6 w w' r → BuiltTo (table_left left n (take 1555 w) a b) at (6 - left) w w' r
+leaf_is {left} {at} {w} {w'} {r} n a b e g = subst (λ (x : ℕ). BuiltTo (table_left x n (take 1555 w) a b) at (6 - x) w w' r) (sym e) g
 
 -- one dimension left
-pub last_is : (left n at a b : ℕ) (w w' : List ℕ) (r : Built) → left ≡ 1 → BuiltTo (table_left 1 n (take 1555 w) a b) at 5 w w' r → BuiltTo (table_left left n (take 1555 w) a b) at (6 - left) w w' r
-last_is left n at a b w w' r e g = subst (λ (x : ℕ). BuiltTo (table_left x n (take 1555 w) a b) at (6 - x) w w' r) (sym e) g
+pub last_is : {left at : ℕ} {w w' : List ℕ} {r : Option ℕ} (n a b : ℕ) → left ≡ 1 → BuiltTo (table_left 1 n (take 1555 w) a b) at 5 w w' r → BuiltTo (table_left left n (take 1555 w) a b) at (6 - left) w w' r
+last_is {left} {at} {w} {w'} {r} n a b e g = subst (λ (x : ℕ). BuiltTo (table_left x n (take 1555 w) a b) at (6 - x) w w' r) (sym e) g
 
 pub leaf_one : (n at a b ya yb : ℕ) (w w' : List ℕ) (ok : Bool) → 3 * at + 3 ≤ length w → Ready n ya yb (take 1555 w) w → ok ≡ first_or 64 ya a (first_or 64 yb b false) → ok ≡ true → w' ≡ (take (3 * at) w ++ (0 ∷ (0 ∷ (0 ∷ [])))) ++ drop (3 * at + 3) w
-    → BuiltTo (table_left 0 n (take 1555 w) a b) at 6 w w' (Lines 1)
+    → BuiltTo (table_left 0 n (take 1555 w) a b) at 6 w w' (Some 1)
 unfolding table_words line_words
 leaf_one n at a b ya yb w w' ok h r e y g =
     let q : table_left 0 n (take 1555 w) a b ≡ [] ∷ [] = leaf_left n a b ya yb (take 1555 w) w r ∙ ap (λ (z : Bool). cond z ([] ∷ []) []) (sym e ∙ y) in
     let l : length (take (3 * at) w ++ (0 ∷ (0 ∷ (0 ∷ [])))) ≡ 3 * (at + 1) = length-append (take (3 * at) w) (0 ∷ (0 ∷ (0 ∷ []))) ∙ omega (arith, length-take-le (3 * at) w (omega arith)) in
     rw q (record { answer = refl; held = λ o. ap (λ (x : List ℕ). take (3 * (at + 1)) x) g ∙ take_at (take (3 * at) w ++ (0 ∷ (0 ∷ (0 ∷ [])))) (drop (3 * at + 3) w) (3 * (at + 1)) l })
 
-pub leaf_none : (n at a b ya yb : ℕ) (w : List ℕ) (ok : Bool) → Ready n ya yb (take 1555 w) w → ok ≡ first_or 64 ya a (first_or 64 yb b false) → ok ≡ false → BuiltTo (table_left 0 n (take 1555 w) a b) at 6 w w (Lines 0)
+pub leaf_none : (n at a b ya yb : ℕ) (w : List ℕ) (ok : Bool) → Ready n ya yb (take 1555 w) w → ok ≡ first_or 64 ya a (first_or 64 yb b false) → ok ≡ false → BuiltTo (table_left 0 n (take 1555 w) a b) at 6 w w (Some 0)
 unfolding table_words
 leaf_none n at a b ya yb w ok r e y =
     let q : table_left 0 n (take 1555 w) a b ≡ [] = leaf_left n a b ya yb (take 1555 w) w r ∙ ap (λ (z : Bool). cond z ([] ∷ []) []) (sym e ∙ y) in
     rw q (record { answer = refl; held = λ o. rw add-zero (sym (append-nil (take (3 * at) w))) })
-
-pub ruleset leaving = (rules, none_is, leaf_is, leaf_one, leaf_none)

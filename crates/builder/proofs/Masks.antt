@@ -117,4 +117,4 @@ seven_at_most k y e = by_test (ltb y 7)
 pub names_room : (p k y : ℕ) → k ≡ at_most_seven y → p + 21 ≤ 1555 → p + 14 + k ≤ 1555
 names_room p k y e h = omega (arith, seven_at_most k y e)
 
-pub ruleset ruled_rules = (rules, rule_no, rule_plain, rule_named, names_room)
+pub ruleset ruled_rules = (rules, rule_no, names_room)

@@ -4,6 +4,7 @@ use native.Mathlib.Omega.{arith}
 use mathlib.Core.Path.{◌≡◌, refl, sym, ap, ap₂, ◌∙◌, subst}
 use mathlib.Core.Bool.{Bool, true, false, cond, beq}
 use mathlib.Core.List.{List, [], ◌∷◌, ◌++◌, append_assoc, append-nil, cons≢nil}
+use Rattle.std.specs.Prelude.{Some}
 use lib.ListN.{length, take, drop, get_or, length-append}
 use lib.Seq.{take_at, take-take, length-take-le}
 use lib.Bits.{bit_and}
@@ -11,19 +12,16 @@ use borrow.Author.Rules.{rules}
 use Rattle.flows.specs.Table.{◌to◌, Table, runs_from, put_before, lines_of}
 use Rattle.text.proofs.Tests.{by_test, clash}
 use Rattle.flows.proofs.Meaning.{length_put}
-use Rattle.builder.specs.declared.Built.{Built}
-use Rattle.builder.specs.declared.Built.TheVariants.{Lines, Over}
 use Rattle.builder.specs.declared.live.Judged.{Judged}
-use Rattle.builder.specs.declared.live.Run.{Run}
-use Rattle.builder.specs.Encoding.{low_of, high_of, column_of, word_of, table_words}
+use Rattle.builder.specs.Encoding.{low_of, high_of, column_of, word_of, table_words, line_words}
 use Rattle.builder.specs.Cells.{top_of, table_left, first_or, cells_at, Chain, Ready}
-use Rattle.builder.specs.Post.{BuiltTo, CellRead, ok_at, JudgedRead, RunPut, stamp_n}
+use Rattle.builder.specs.Post.{BuiltTo, ok_at, JudgedRead, RunPut, stamp_n}
 use Rattle.builder.proofs.Chosen.{leaf_left}
 use Rattle.builder.proofs.Laid.{table_length, table_append, stamp_table}
 use Rattle.builder.proofs.Cutting.{cells_between}
 use Rattle.builder.proofs.Pending.{Pending, pending_first, pending_last, pending_on, pending_new}
-use Rattle.builder.proofs.Turns.{front, lines_of_lem, over_of, is_lines}
-use Rattle.builder.proofs.Levels.{sec_of, left_whole, sec_at, same_at, ready_now, Link, link_of}
+use Rattle.builder.proofs.Turns.{is_lines}
+use Rattle.builder.proofs.Levels.{sec_of, left_whole, sec_at, same_at, Link, link_of}
 
 -- with no dimension left: one line, or none
 abbrev pub one_line : Bool → Table
@@ -49,46 +47,25 @@ port_place : cells_at 5 ≡ 6214
 unfolding cells_at
 port_place = refl
 
--- the verdict of the live sets that are read of a cell
-pub sets_verdict : (a b ya yb x : ℕ) (w : List ℕ) (cell : Run) (ok : Bool) → CellRead a b x w cell → ok ≡ ok_at a b ya yb w x → ok ≡ first_or 64 ya cell.a (first_or 64 yb cell.b false)
-sets_verdict a b ya yb x w cell ok r e = e ∙ ap₂ (λ (p q : ℕ). first_or 64 ya p (first_or 64 yb q false)) (sym r.first) (sym r.second)
-
-pub cell_verdict : (ya yb : ℕ) {p q p' q' : ℕ} {r : Bool} → r ≡ first_or 64 ya p (first_or 64 yb q false) → p ≡ p' → q ≡ q' → r ≡ first_or 64 ya p' (first_or 64 yb q' false)
-cell_verdict ya yb e f g = e ∙ ap₂ (λ (p q : ℕ). first_or 64 ya p (first_or 64 yb q false)) f g
-
-pub ruleset judging = (rules, cell_verdict)
-
 -- ---- a run put down
-module _ (n at lo hi ya yb ra rb : ℕ) (ok : Bool) (w w' : List ℕ) (r : Built) (room : 3 * at + 3 ≤ length w) (ready : Ready n ya yb (take 1555 w) w) (verdict : ok ≡ first_or 64 ya ra (first_or 64 yb rb false))
-    (accepted : ok ≡ true) (b : BuiltTo (table_left 0 n (take 1555 w) ra rb) at 6 w w' r) where
-  -- with no dimension left there is one line
-  one : table_left 0 n (take 1555 w) ra rb ≡ [] ∷ []
-  one = leaf_left n ra rb ya yb (take 1555 w) w ready ∙ ap one_line (sym verdict ∙ accepted)
+one_words : table_words 6 ([] ∷ []) ≡ 0 ∷ (0 ∷ (0 ∷ []))
+unfolding table_words line_words
+one_words = refl
 
-  pub not_over : r ≡ Over → ⊥
-  not_over e = let h = over_of (table_left 0 n (take 1555 w) ra rb) r b.answer e in omega (arith, h, ap length one)
-
-  pub one_more : (m : ℕ) → r ≡ Lines m → m ≡ 1
-  one_more m e = let h = lines_of_lem (table_left 0 n (take 1555 w) ra rb) m r b.answer e in omega (arith, h.0, ap length one)
-
-  pub run_put : (m : ℕ) (w'' : List ℕ) → r ≡ Lines m → w'' ≡ stamp_n (column_of 5) (word_of 5 lo hi) (at + m - at) at w' → RunPut at lo hi ok w w'' (at + m)
-  run_put m w'' e f =
-      let t = table_left 0 n (take 1555 w) ra rb in
-      let P = put_before (lo to hi) t in
-      let h = lines_of_lem t m r b.answer e in
-      let l : length (take (3 * at) w) ≡ 3 * at = length-take-le (3 * at) w (omega arith) in
-      let tail = drop (3 * (at + length t)) w' in
-      let q : w' ≡ take (3 * at) w ++ (table_words 6 t ++ tail) = front (3 * (at + length t)) w' (take (3 * at) w ++ table_words 6 t) (b.held h.1) ∙ append_assoc (take (3 * at) w) (table_words 6 t) tail in
-      let k : at + m - at ≡ length t = omega (arith, h.0) in
-      let g : w'' ≡ (take (3 * at) w ++ table_words 5 P) ++ tail =
-      f ∙ ap₂ (λ (k : ℕ) (z : List ℕ). stamp_n (column_of 5) (word_of 5 lo hi) k at z) k q
-      ∙ stamp_table 5 lo hi at t (take (3 * at) w) tail l ∙ sym (append_assoc (take (3 * at) w) (table_words 5 P) tail) in
-      let o : one_line ok ≡ t = ap one_line (accepted) ∙ sym one in
-      let z : length (take (3 * at) w ++ table_words 5 P) ≡ 3 * (at + m) = length-append (take (3 * at) w) (table_words 5 P) ∙ omega (arith, l, table_length 5 P, length_put (lo to hi) t, h.0) in
-      record {
-        count = omega (arith, h.0, one_length ok, ap length o);
-        held = ap (λ (z : List ℕ). take (3 * (at + m)) z) g ∙ take_at (take (3 * at) w ++ table_words 5 P) tail (3 * (at + m)) z ∙ ap (λ (u : Table). take (3 * at) w ++ table_words 5 (put_before (lo to hi) u)) (sym o);
-      }
+pub run_put : (at lo hi : ℕ) (ok : Bool) (w w' w'' : List ℕ) → 3 * at + 3 ≤ length w → ok ≡ true → w' ≡ (take (3 * at) w ++ (0 ∷ (0 ∷ (0 ∷ [])))) ++ drop (3 * at + 3) w
+    → w'' ≡ stamp_n (column_of 5) (word_of 5 lo hi) (at + 1 - at) at w' → RunPut at lo hi ok w w'' (at + 1)
+run_put at lo hi ok w w' w'' room y e f =
+    let t : Table = [] ∷ [] in
+    let P = put_before (lo to hi) t in
+    let tail = drop (3 * at + 3) w in
+    let l : length (take (3 * at) w) ≡ 3 * at = length-take-le (3 * at) w (omega arith) in
+    let q : w' ≡ take (3 * at) w ++ (table_words 6 t ++ tail) = e ∙ append_assoc (take (3 * at) w) (0 ∷ (0 ∷ (0 ∷ []))) tail ∙ ap (λ (z : List ℕ). take (3 * at) w ++ (z ++ tail)) (sym one_words) in
+    let k : at + 1 - at ≡ 1 = omega arith in
+    let g : w'' ≡ (take (3 * at) w ++ table_words 5 P) ++ tail =
+    f ∙ ap₂ (λ (k : ℕ) (z : List ℕ). stamp_n (column_of 5) (word_of 5 lo hi) k at z) k q
+    ∙ stamp_table 5 lo hi at t (take (3 * at) w) tail l ∙ sym (append_assoc (take (3 * at) w) (table_words 5 P) tail) in
+    let z : length (take (3 * at) w ++ table_words 5 P) ≡ 3 * (at + 1) = length-append (take (3 * at) w) (table_words 5 P) ∙ omega (arith, l, table_length 5 P, length_put (lo to hi) t) in
+    rw y (record { count = omega arith; held = ap (λ (z : List ℕ). take (3 * (at + 1)) z) g ∙ take_at (take (3 * at) w ++ table_words 5 P) tail (3 * (at + 1)) z })
 
 pub run_dropped : (at lo hi : ℕ) (ok : Bool) (w : List ℕ) → ok ≡ false → RunPut at lo hi ok w w at
 unfolding table_words put_before
@@ -105,12 +82,11 @@ pub record Scan (n at a b ya yb : ℕ) (we work : List ℕ) (x lo hi : ℕ) (ok 
   pub count : ℕ
   pub chain : hi < 65535 → Chain count n 5 (take 1555 we) we (cells_at 6) (hi + 1) (x + 3)
   pub base : 2357 ≤ at
-  pub fits : 3 * (at + 512) + 3 ≤ length we
+  pub fits : 3 * (at + 512) + 3 ≤ 16290
+  pub whole : length we ≡ 16290
   pub low : lo ≤ top_of 5
   pub high : hi ≤ top_of 5
-  pub long : length work ≡ length we
   pub place : x ≤ 7066
-  pub verdict : ok ≡ ok_at a b ya yb we x
 
 -- the section of each value of a cell
 cell_sec : (n a b ya yb : ℕ) (w : List ℕ) (v x y : ℕ) → Ready n ya yb (take 1555 w) w → Link n 5 (take 1555 w) w (cells_at 6) v x → v ≤ y → y ≤ high_of (get_or w x 0) → sec_of 1 n (take 1555 w) a b y ≡ one_line (ok_at a b ya yb w x)
@@ -123,10 +99,10 @@ cell_sec n a b ya yb w v x y r c h k =
 pub scan_first : {at x long : ℕ} → 2357 ≤ at → 3 * (at + 512) + 3 ≤ long → x ≡ cells_at 5 → x + 3 ≤ long
 scan_first base fits e = omega (arith, e, port_place)
 
-pub scan_start : {n at a b ya yb x : ℕ} {run : Judged} {w : List ℕ} → 2357 ≤ at → 3 * (at + 512) + 3 ≤ length w → Ready n ya yb (take 1555 w) w → x ≡ cells_at 5 → JudgedRead a b ya yb x w run
+pub scan_start : {n at a b ya yb x : ℕ} {run : Judged} {w : List ℕ} → 2357 ≤ at → 3 * (at + 512) + 3 ≤ 16290 → length w ≡ 16290 → Ready n ya yb (take 1555 w) w → x ≡ cells_at 5 → JudgedRead a b ya yb x w run
     → Scan n at a b ya yb w w x run.low run.high run.ok at
 unfolding table_words
-scan_start {n} {at} {a} {b} {ya} {yb} {x} {run} {w} base fits r ex read =
+scan_start {n} {at} {a} {b} {ya} {yb} {x} {run} {w} base fits all r ex read =
     let lo = run.low in
     let hi = run.high in
     let ok = run.ok in
@@ -152,30 +128,23 @@ scan_start {n} {at} {a} {b} {ya} {yb} {x} {run} {w} base fits r ex read =
       chain = λ h. subst (λ (u : ℕ). Chain l.count n 5 R w (cells_at 6) (u + 1) (x + 3)) (sym eh) (l.rest (omega (arith, eh, port_top)));
       base = base;
       fits = fits;
+      whole = all;
       low = omega (arith, z);
       high = hm;
-      long = refl;
       place = omega (arith, ex, port_place);
-      verdict = read.verdict;
     }
 
 module _ {n at a b ya yb : ℕ} {we work : List ℕ} {x lo hi : ℕ} {ok : Bool} {end : ℕ} (t : Scan n at a b ya yb we work x lo hi ok end) where
-  pub scan_room : 3 * end + 3 ≤ length work
-  scan_room = omega (arith, t.few, t.place, t.fits, t.long)
+  pub scan_room : 3 * end + 3 ≤ 16290
+  scan_room = omega (arith, t.few, t.place, t.fits)
 
   scan_front : take (3 * at) work ≡ take (3 * at) we
   scan_front =
-      let l : length (take (3 * at) we) ≡ 3 * at = length-take-le (3 * at) we (omega (arith, t.fits)) in
+      let l : length (take (3 * at) we) ≡ 3 * at = length-take-le (3 * at) we (omega (arith, t.fits, t.whole)) in
       sym (take-take (3 * at) (3 * end) work (omega (arith, t.at_end))) ∙ ap (λ (z : List ℕ). take (3 * at) z) t.held ∙ take_at (take (3 * at) we) (table_words 5 t.done) (3 * at) l
 
   same : (q : ℕ) → q < 7069 → get_or work q 0 ≡ get_or we q 0
   same q h = same_at at we work q (omega (arith, t.base)) scan_front
-
-  pub scan_verdict : ok ≡ ok_at a b ya yb work x
-  scan_verdict = t.verdict ∙ ap₂ (λ (p q : ℕ). first_or 64 ya (bit_and a p) (first_or 64 yb (bit_and b q) false)) (sym (same (x + 1) (omega (arith, t.place)))) (sym (same (x + 2) (omega (arith, t.place))))
-
-  pub scan_ready : Ready n ya yb (take 1555 work) work
-  scan_ready = ready_now at we work t.base scan_front t.ready
 
   -- the pending run is put down
   module _ {w' : List ℕ} {end' : ℕ} (p : RunPut end lo hi ok work w' end') where
@@ -192,7 +161,7 @@ module _ {n at a b ya yb : ℕ} {we work : List ℕ} {x lo hi : ℕ} {ok : Bool}
         ∙ ap (λ (z : List ℕ). take (3 * at) we ++ z) (sym (table_append 5 t.done (put_before (lo to hi) (one_line ok))))
 
     -- and it was the last
-    pub scan_done : 65535 ≤ hi → BuiltTo (table_left 1 n (take 1555 we) a b) at 5 we w' (Lines (end' - at))
+    pub scan_done : 65535 ≤ hi → BuiltTo (table_left 1 n (take 1555 we) a b) at 5 we w' (Some (end' - at))
     scan_done h =
         let whole = table_left 1 n (take 1555 we) a b in
         let q : t.done ++ put_before (lo to hi) (one_line ok) ≡ whole = pending_last (sec_of 1 n (take 1555 we) a b) 65536 whole t.done lo hi (one_line ok) t.pending (omega arith) in
@@ -210,8 +179,8 @@ module _ {n at a b ya yb : ℕ} {we work : List ℕ} {x lo hi : ℕ} {ok : Bool}
     pub scan_inside : x + 3 + 3 ≤ 7069
     scan_inside = omega (arith, next.cell.inside, cells_between 5 (omega arith))
 
-    pub scan_fits : x + 3 + 3 ≤ length work
-    scan_fits = omega (arith, scan_inside, t.long, t.fits, t.base)
+    pub scan_fits : x + 3 + 3 ≤ 16290
+    scan_fits = omega (arith, scan_inside)
 
     module _ {cell : Judged} (read : JudgedRead a b ya yb (x + 3) work cell) where
       up : ℕ
@@ -253,17 +222,16 @@ module _ {n at a b ya yb : ℕ} {we work : List ℕ} {x lo hi : ℕ} {ok : Bool}
         chain = chained;
         base = t.base;
         fits = t.fits;
+        whole = t.whole;
         low = t.low;
         high = omega (arith, up_more, port_top);
-        long = t.long;
         place = omega (arith, scan_inside);
-        verdict = sym (same_verdict cell.ok ok e) ∙ next_verdict;
       }
 
       -- the other verdict
-      pub scan_new : {w' : List ℕ} {end' : ℕ} → RunPut end lo hi ok work w' end' → length w' ≡ length work → beq cell.ok ok ≡ false → Scan n at a b ya yb we w' (x + 3) cell.low cell.high cell.ok end'
+      pub scan_new : {w' : List ℕ} {end' : ℕ} → RunPut end lo hi ok work w' end' → beq cell.ok ok ≡ false → Scan n at a b ya yb we w' (x + 3) cell.low cell.high cell.ok end'
       unfolding up
-      scan_new {w'} {end'} p g e =
+      scan_new {w'} {end'} p e =
           let q : suc hi ≡ cell.low = omega (arith, read.low, ap low_of (same (x + 3) (omega (arith, scan_inside))), next.cell.low) in
           let f = sec_of 1 n (take 1555 we) a b in
           let whole = table_left 1 n (take 1555 we) a b in
@@ -279,11 +247,10 @@ module _ {n at a b ya yb : ℕ} {we work : List ℕ} {x lo hi : ℕ} {ok : Bool}
             chain = chained;
             base = t.base;
             fits = t.fits;
+            whole = t.whole;
             low = omega (arith, q, up_more, port_top);
             high = omega (arith, up_more, port_top);
-            long = g ∙ t.long;
             place = omega (arith, scan_inside);
-            verdict = next_verdict;
           }
 
-pub ruleset scanning = (rules, scan_first, scan_start, scan_room, scan_ready, put_few, scan_done, scan_fits, scan_less)
+pub ruleset scanning = (rules, scan_start, scan_fits)

@@ -1,6 +1,5 @@
 -- Reading the lines back out of their words.
 use Prim.Native.Nat.{ℕ, zero, suc, ◌+◌, ◌*◌, ◌/◌, ◌%◌, ◌≤◌, ◌<◌}
-use native.Mathlib.Nat.{div-one}
 use native.Mathlib.Omega.{arith}
 use mathlib.Core.Path.{◌≡◌, refl, sym, ap, ap₂, ◌∙◌}
 use mathlib.Core.List.{List, [], ◌∷◌, ◌++◌}
@@ -8,7 +7,6 @@ use lib.ListN.{length, take, drop, get_or, get_or-append}
 use lib.Seq.{get_or-take, get_or-drop, get_or-append-add, get_or-set_other}
 use lib.Bits.{bit_or}
 use lib.Arith.{digits_div, digits_mod}
-use borrow.Author.Rules.{rules}
 use Rattle.flows.specs.Table.{◌to◌, Line, Table, Set, table_of}
 use Rattle.flows.specs.Flow.{widths}
 use Rattle.builder.specs.Encoding.{column_of, base_of, factor_of, word_of, line_words, table_words, range_of, low_in, high_in, range_in, line_at}
@@ -16,63 +14,11 @@ use Rattle.builder.specs.Cells.{top_of, widths_left}
 use Rattle.builder.proofs.Laid.{Fit, Fits, fit_most, line_length, put_here, put_sum, room, no_first, base_more, column_most}
 use Rattle.builder.proofs.Levels.{fits_table}
 
--- ---- the functions' cases
-module _ (d w : ℕ) where
-  pub low_direction : d ≡ 0 → w / 4294967296 / 256 % 256 ≡ low_in d w
-  unfolding low_in factor_of base_of
-  low_direction e = rw e
-
-  pub low_protocol : d ≡ 1 → w / 65536 / 256 % 256 ≡ low_in d w
-  unfolding low_in factor_of base_of
-  low_protocol e = rw e
-
-  pub low_opener : d ≡ 2 → w / 256 % 256 ≡ low_in d w
-  unfolding low_in factor_of base_of
-  low_opener e = rw (e, div-one w)
-
-  pub low_address : d ≡ 3 → w / 4294967296 % 4294967296 ≡ low_in d w
-  unfolding low_in factor_of base_of
-  low_address e = rw (e, div-one w)
-
-  pub low_remote : d ≡ 4 → w / 4294967296 / 65536 % 65536 ≡ low_in d w
-  unfolding low_in factor_of base_of
-  low_remote e = rw e
-
-  pub low_device : d < 6 → (d ≡ 0 → ⊥) → (d ≡ 1 → ⊥) → (d ≡ 2 → ⊥) → (d ≡ 3 → ⊥) → (d ≡ 4 → ⊥) → w / 65536 % 65536 ≡ low_in d w
-  unfolding low_in factor_of base_of
-  low_device h a b c e f = let q : d ≡ 5 = omega arith in rw (q, div-one w)
-
-  pub high_direction : d ≡ 0 → w / 4294967296 % 256 ≡ high_in d w
-  unfolding high_in factor_of base_of
-  high_direction e = rw e
-
-  pub high_protocol : d ≡ 1 → w / 65536 % 256 ≡ high_in d w
-  unfolding high_in factor_of base_of
-  high_protocol e = rw e
-
-  pub high_opener : d ≡ 2 → w % 256 ≡ high_in d w
-  unfolding high_in factor_of base_of
-  high_opener e = rw (e, div-one w)
-
-  pub high_address : d ≡ 3 → w % 4294967296 ≡ high_in d w
-  unfolding high_in factor_of base_of
-  high_address e = rw (e, div-one w)
-
-  pub high_remote : d ≡ 4 → w / 4294967296 % 65536 ≡ high_in d w
-  unfolding high_in factor_of base_of
-  high_remote e = rw e
-
-  pub high_device : d < 6 → (d ≡ 0 → ⊥) → (d ≡ 1 → ⊥) → (d ≡ 2 → ⊥) → (d ≡ 3 → ⊥) → (d ≡ 4 → ⊥) → w % 65536 ≡ high_in d w
-  unfolding high_in factor_of base_of
-  high_device h a b c e f = let q : d ≡ 5 = omega arith in rw (q, div-one w)
-
 -- the range of the two ends, out of the word in column c
 pub range_read : (w : List ℕ) (i d c lo hi : ℕ) → c ≡ column_of d → lo ≡ low_in d (get_or w (7071 + 3 * i + c) 0) → hi ≡ high_in d (get_or w (7071 + 3 * i + c) 0) → hi < 4294967296
     → range_of (lo * 4294967296 + hi) ≡ range_in d (get_or w (line_at i d) 0)
 range_read w i d c lo hi e p q h =
     ap₂ (λ (x y : ℕ). x to y) (digits_div lo h ∙ p) (digits_mod lo h ∙ q) ∙ ap (λ (y : ℕ). range_in d (get_or w (7071 + 3 * i + y) 0)) e
-
-pub ruleset reading = (rules, range_read, low_direction, low_protocol, low_opener, low_address, low_remote, low_device, high_direction, high_protocol, high_opener, high_address, high_remote, high_device)
 
 -- ---- a line's word has each range at its place: what stands above it is a multiple, what stands below it is smaller
 record Placed (d lo hi w : ℕ) : Type 0 where

@@ -2,17 +2,17 @@
 use Prim.Native.Nat.{ℕ, suc, ◌+◌, ◌-◌, ◌*◌, ◌≤◌, ◌<◌}
 use native.Mathlib.Omega.{arith}
 use mathlib.Core.Path.{◌≡◌, refl, sym, ap, ◌∙◌}
-use mathlib.Core.Bool.{Bool, true, false, cond}
+use mathlib.Core.Bool.{true, false}
 use mathlib.Core.List.{List, [], ◌++◌, append_assoc}
 use lib.Dec.{leb}
+use Rattle.std.specs.Prelude.{Option, Some, None}
 use lib.ListN.{length, take, drop, length-append, take-append-drop}
 use lib.Seq.{take_at, drop_at, length-take-le}
 use borrow.Author.Tests.{le-leb, lt-leb, leb-true, leb-false}
 use Rattle.flows.specs.Table.{◌to◌, Table, runs_from, put_before, lines_of}
-use Rattle.text.proofs.Tests.{clash}
+use Rattle.std.proofs.lemmas.Option.{none-some, cond_some}
+use Rattle.text.proofs.Tests.{by_test, clash}
 use Rattle.flows.proofs.Meaning.{length_put}
-use Rattle.builder.specs.declared.Built.{Built}
-use Rattle.builder.specs.declared.Built.TheVariants.{Lines, Over}
 use Rattle.builder.specs.Encoding.{column_of, word_of, table_words}
 use Rattle.builder.specs.Promise.{answer_of}
 use Rattle.builder.specs.Post.{BuiltTo, same_words, stamp_n, part}
@@ -20,27 +20,19 @@ use Rattle.builder.proofs.Laid.{Fits, table_length, table_append, table_told, st
 use Rattle.builder.proofs.Pending.{Pending, pending_first, pending_last, pending_on, pending_new, pending_most, pending_more}
 
 -- ---- what an answer says of the lines
-answer_lines : (b : Bool) (t : Table) (m : ℕ) → leb (length t) 512 ≡ b → cond b (Lines (length t)) Over ≡ Lines m → (length t ≡ m) × (length t ≤ 512)
-answer_lines true t m e q = (cc, leb-true (length t) 512 e)
-answer_lines false t m e q = let z : ◌≡◌ {A = ℕ} 0 1 = cc in absurd (omega arith)
+pub lines_of_lem : (t : Table) (m : ℕ) (r : Option ℕ) → r ≡ answer_of t → r ≡ Some m → (length t ≡ m) × (length t ≤ 512)
+lines_of_lem t m r a e = let q = cond_some (leb (length t) 512) (length t) m (sym a ∙ e) in (q.1, leb-true (length t) 512 q.0)
 
-pub lines_of_lem : (t : Table) (m : ℕ) (r : Built) → r ≡ answer_of t → r ≡ Lines m → (length t ≡ m) × (length t ≤ 512)
-lines_of_lem t m r a e = answer_lines (leb (length t) 512) t m refl (sym a ∙ e)
+pub over_of : (t : Table) (r : Option ℕ) → r ≡ answer_of t → r ≡ None → 512 < length t
+over_of t r a e = by_test (leb (length t) 512) (λ y. absurd (none-some (length t) (sym e ∙ (a ∙ rw y)))) (λ y. leb-false (length t) 512 y)
 
-answer_over : (b : Bool) (t : Table) → leb (length t) 512 ≡ b → cond b (Lines (length t)) Over ≡ Over → 512 < length t
-answer_over true t e q = let z : ◌≡◌ {A = ℕ} 0 1 = cc in absurd (omega arith)
-answer_over false t e q = leb-false (length t) 512 e
-
-pub over_of : (t : Table) (r : Built) → r ≡ answer_of t → r ≡ Over → 512 < length t
-over_of t r a e = answer_over (leb (length t) 512) t refl (sym a ∙ e)
-
-pub is_over : (t : Table) (at d : ℕ) (w w' : List ℕ) → 512 < length t → BuiltTo t at d w w' Over
+pub is_over : (t : Table) (at d : ℕ) (w w' : List ℕ) → 512 < length t → BuiltTo t at d w w' None
 is_over t at d w w' h = record { answer = simp (lt-leb (length t) 512 h); held = λ q. absurd (omega arith) }
 
-pub is_lines : (t : Table) (m : ℕ) → length t ≡ m → m ≤ 512 → Lines m ≡ answer_of t
+pub is_lines : (t : Table) (m : ℕ) → length t ≡ m → m ≤ 512 → Some m ≡ answer_of t
 is_lines t m e h =
     let q : leb (length t) 512 ≡ true = le-leb (length t) 512 (omega arith) in
-    simp q (ap Lines (sym e))
+    simp q (ap Some (sym e))
 
 -- ---- the state: f gives the table of each value's section, w is the dimension's width
 pub record State (f : ℕ → Table) (w : ℕ) (whole : Table) (d at : ℕ) (w₀ work : List ℕ) (kept end lo hi : ℕ) (pend : Table) : Type 0 where
@@ -58,15 +50,15 @@ pub front : (k : ℕ) (w l : List ℕ) → take k w ≡ l → w ≡ l ++ drop k 
 front k w l e = sym (take-append-drop k w) ∙ ap (λ (x : List ℕ). x ++ drop k w) e
 
 -- a section built at `at` leaves what stood before
-pub before_kept : (t : Table) (at d : ℕ) (w w' : List ℕ) (r : Built) (m : ℕ) → 3 * at ≤ length w → BuiltTo t at d w w' r → r ≡ Lines m → take (3 * at) w' ≡ take (3 * at) w
+pub before_kept : (t : Table) (at d : ℕ) (w w' : List ℕ) (r : Option ℕ) (m : ℕ) → 3 * at ≤ length w → BuiltTo t at d w w' r → r ≡ Some m → take (3 * at) w' ≡ take (3 * at) w
 before_kept t at d w w' r m h b e =
     let q = lines_of_lem t m r b.answer e in
     let f = front (3 * (at + length t)) w' (take (3 * at) w ++ table_words d t) (b.held q.1) ∙ append_assoc (take (3 * at) w) (table_words d t) (drop (3 * (at + length t)) w') in
     ap (λ (x : List ℕ). take (3 * at) x) f ∙ take_at (take (3 * at) w) (table_words d t ++ drop (3 * (at + length t)) w') (3 * at) (length-take-le (3 * at) w h)
 
 -- where the loop begins: the first cell's section is the pending run
-pub start : (f : ℕ → Table) (w : ℕ) (whole : Table) (d at : ℕ) (we w' : List ℕ) (r : Built) (m hi : ℕ) (pend : Table) → 3 * at ≤ length we → whole ≡ lines_of (runs_from w 0 f) → hi < w → ((x : ℕ) → x ≤ hi → f x ≡ pend) → Fits (suc d) pend
-    → BuiltTo pend at (suc d) we w' r → r ≡ Lines m → State f w whole d at w' w' at (at + m) 0 hi pend
+pub start : (f : ℕ → Table) (w : ℕ) (whole : Table) (d at : ℕ) (we w' : List ℕ) (r : Option ℕ) (m hi : ℕ) (pend : Table) → 3 * at ≤ length we → whole ≡ lines_of (runs_from w 0 f) → hi < w → ((x : ℕ) → x ≤ hi → f x ≡ pend) → Fits (suc d) pend
+    → BuiltTo pend at (suc d) we w' r → r ≡ Some m → State f w whole d at w' w' at (at + m) 0 hi pend
 unfolding table_words
 start f w whole d at we w' r m hi pend h wh k g fit b e =
     let q = lines_of_lem pend m r b.answer e in
@@ -115,7 +107,7 @@ module _ (f : ℕ → Table) (w : ℕ) (whole : Table) (d at : ℕ) (w₀ : List
       ∙ simp (table_append d st.done (put_before (lo to hi) pend), append_assoc)
 
   -- the loop is over: the pending run is closed, and the table is there
-  pub finish : w ≤ suc hi → BuiltTo whole at d w₀ (stamp_n (column_of d) (word_of d lo hi) (end - kept) kept work) (Lines (end - at))
+  pub finish : w ≤ suc hi → BuiltTo whole at d w₀ (stamp_n (column_of d) (word_of d lo hi) (end - kept) kept work) (Some (end - at))
   finish h =
       let e : st.done ++ put_before (lo to hi) pend ≡ whole = pending_last f w whole st.done lo hi pend st.pending h in
       let l : length whole ≡ end - at = ap length (sym e) ∙ length-append st.done (put_before (lo to hi) pend) ∙ omega (arith, length_put (lo to hi) pend, st.at_kept, st.at_end) in
@@ -142,11 +134,11 @@ module _ (f : ℕ → Table) (w : ℕ) (whole : Table) (d at : ℕ) (w₀ : List
     }
 
     -- the section of the next cell is built behind the pending run
-    module _ (fit_s : Fits (suc d) s) (w' : List ℕ) (r : Built) (b : BuiltTo s end (suc d) work w' r) (same_long : length w' ≡ length work) where
-      pub over_sec : r ≡ Over → 512 < length whole
+    module _ (fit_s : Fits (suc d) s) (w' : List ℕ) (r : Option ℕ) (b : BuiltTo s end (suc d) work w' r) (same_long : length w' ≡ length work) where
+      pub over_sec : r ≡ None → 512 < length whole
       over_sec q = omega (arith, over_of s r b.answer q, pending_most f w whole st.done lo hi pend st.pending e s more last alike)
 
-      module _ (m : ℕ) (q : r ≡ Lines m) where
+      module _ (m : ℕ) (q : r ≡ Some m) where
         pub counted : (length s ≡ m) × (length s ≤ 512)
         counted = lines_of_lem s m r b.answer q
 

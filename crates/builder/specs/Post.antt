@@ -1,8 +1,7 @@
 -- Inner words of the builder; its promise does not rest on them: what its functions leave in the work buffer.
-use Rattle.std.specs.Prelude.{ℕ, zero, suc, ◌+◌, ◌-◌, ◌*◌, ◌≤◌, ◌<◌, ◌≡◌, Bool, true, false, cond, ◌&&◌, List, [], ◌∷◌, ◌++◌, eqb, length, take, drop, get_or, set}
+use Rattle.std.specs.Prelude.{ℕ, zero, suc, ◌+◌, ◌-◌, ◌*◌, ◌≤◌, ◌<◌, ◌≡◌, Bool, true, false, cond, ◌&&◌, Option, List, [], ◌∷◌, ◌++◌, eqb, length, take, drop, get_or, set}
 use Rattle.std.specs.Int.Bits.{bit_and}
 use Rattle.flows.specs.Table.{Table, ◌to◌, put_before}
-use Rattle.builder.specs.declared.Built.{Built}
 use Rattle.builder.specs.declared.live.Run.{Run}
 use Rattle.builder.specs.declared.live.Judged.{Judged}
 use Rattle.builder.specs.Promise.{answer_of}
@@ -10,7 +9,7 @@ use Rattle.builder.specs.Encoding.{low_of, high_of, put_into, table_words}
 use Rattle.builder.specs.Cells.{first_or, mask_of, starts_of, cells_at, Cut}
 
 -- The table t, with its dimensions from d on, is built from line `at` on, and what stands before is kept: w before, w' after
-pub record BuiltTo (t : Table) (at d : ℕ) (w w' : List ℕ) (r : Built) : Type 0 where
+pub record BuiltTo (t : Table) (at d : ℕ) (w w' : List ℕ) (r : Option ℕ) : Type 0 where
   pub answer : r ≡ answer_of t
   pub held : length t ≤ 512 → take (3 * (at + length t)) w' ≡ take (3 * at) w ++ table_words d t
 
@@ -37,10 +36,10 @@ pub record ClosedTo (a e z c x : ℕ) (w w' : List ℕ) (r : Bool) : Type 0 wher
 pub record CellRead (a b x : ℕ) (w : List ℕ) (r : Run) : Type 0 where
   pub low : r.low ≡ low_of (get_or w x 0)
   pub high : r.high ≡ high_of (get_or w x 0)
-  pub first : r.a ≡ bit_and a (get_or w (x + 1) 0)
-  pub second : r.b ≡ bit_and b (get_or w (x + 2) 0)
-  pub third : r.c ≡ bit_and a (get_or w (x + 1) 0)
-  pub fourth : r.d ≡ bit_and b (get_or w (x + 2) 0)
+  pub first : r.live.first ≡ bit_and a (get_or w (x + 1) 0)
+  pub second : r.live.others ≡ bit_and b (get_or w (x + 2) 0)
+  pub third : r.also.first ≡ bit_and a (get_or w (x + 1) 0)
+  pub fourth : r.also.others ≡ bit_and b (get_or w (x + 2) 0)
 
 -- The verdict of the first rule that two masks and the cell at place x have
 abbrev pub ok_at : ℕ → ℕ → ℕ → ℕ → List ℕ → ℕ → Bool
@@ -54,17 +53,17 @@ pub record JudgedRead (a b ya yb x : ℕ) (w : List ℕ) (r : Judged) : Type 0 w
 
 -- The live sets of a run have the table s; f gives the table of two live sets
 abbrev pub Have : (ℕ → ℕ → Table) → Table → Run → Type 0
-Have f s run = (f run.a run.b ≡ s) × (f run.c run.d ≡ s)
+Have f s run = (f run.live.first run.live.others ≡ s) × (f run.also.first run.also.others ≡ s)
 
 -- So has the cell, since its live sets are among them
 abbrev pub Known : Run → Run → Type 0
-Known run cell = (f : ℕ → ℕ → Table) (s : Table) → Have f s run → f cell.a cell.b ≡ s
+Known run cell = (f : ℕ → ℕ → Table) (s : Table) → Have f s run → f cell.live.first cell.live.others ≡ s
 
 -- A run with one more cell
 pub record Longer (run cell r : Run) : Type 0 where
   pub low : r.low ≡ run.low
   pub high : r.high ≡ cell.high
-  pub have : (f : ℕ → ℕ → Table) (s : Table) → Have f s run → f cell.a cell.b ≡ s → Have f s r
+  pub have : (f : ℕ → ℕ → Table) (s : Table) → Have f s run → f cell.live.first cell.live.others ≡ s → Have f s r
 
 -- A run of the last dimension is put down as line `at`, if it is accepted, and what stands before is kept; the next line is r
 pub record RunPut (at lo hi : ℕ) (ok : Bool) (w w' : List ℕ) (r : ℕ) : Type 0 where

@@ -1,26 +1,16 @@
 // The builder's own rules, which drop what is no flow: specs/Encoding.antt has them as `flow_words`.
-ghost use Rattle.std.specs.Prelude.{◌≡◌, ◌++◌, ◌<◌, ◌≤◌, length, take, drop, get_or};
+#![tactic(auto, unfolding(crate::specs::Encoding::flow_words))]
+
+ghost use Rattle.std.specs.Prelude.{◌≡◌, ◌++◌, take, drop};
 ghost use Rattle.builder.specs.Encoding.{flow_words};
 
-// Word i of them.
-fn flow_word(i: usize) -> u64
-    requires { i < 105 }
-    ensures { result ≡ get_or flow_words i 0 }
-{
-    FLOW_RULES[i]
-}
+use crate::{RULES, Work};
 
 // Writes them in front of the caller's rules.
-pub fn put_flow_rules(work: &mut [u64])
-    requires { 169 ≤ length work.old }
+pub fn put_flow_rules(work: &mut Work)
     ensures { work.new ≡ (take 64 work.old ++ flow_words) ++ drop 169 work.old }
 {
-    let mut i = 0;
-    while i < 105 {
-        let x = 64 + i;
-        work[x] = flow_word(i);
-        i += 1;
-    }
+    work[RULES..RULES + FLOW_RULES.len()].copy_from_slice(&FLOW_RULES);
 }
 
 const FLOW_RULES: [u64; 105] = [

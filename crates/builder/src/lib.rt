@@ -22,32 +22,40 @@ mod live;
 mod sections;
 pub mod table;
 
-#[derive(Clone, Copy)]
-pub enum Built {
-    Lines(usize),
-    Over,
-}
+use live::Live;
 
-// The lines of the table of the flows that n rules let through: at most 66 rules, for 64 entries and two defaults.
-pub fn build(work: &mut [u64], n: usize) -> Built
+// A work buffer, and where its parts stand: the rules behind as many networks, with the builder's own in front.
+type Work = [u64; 16290];
+
+const RULES: usize = 64;
+
+const CELLS: usize = 1555;
+
+const LINES: usize = 7071;
+
+// A rule is so many words, and one mask has so many rules. Two masks have the rules of a table.
+const RULE_LEN: usize = 21;
+
+const FIRST: usize = 64;
+
+const OTHERS: usize = RULES + FIRST * RULE_LEN;
+
+// Builds the lines of the table of the flows that n rules let through, and returns their number; `None` for more than 512. There are at most 66
+// rules, for 64 entries and two defaults.
+pub fn build(work: &mut [u64], n: usize) -> Option<usize>
     requires { (length work.old ≡ 16290) × (n ≤ 66) }
     ensures { BuiltIn (table_of widths (let_through (rules_of n work.old))) work.new result }
 {
+    let Some(work) = work.as_mut_array() else {
+        unreachable!()
+    };
     drops::put_flow_rules(work);
     let m = n + 5;
     cells::all_cells(work, m);
     let k = cells::others(m);
-    let j = m - k;
-    let ya = cells::accept_mask(work, 64, j);
-    let yb = cells::accept_mask(work, 1408, k);
-    sections::section(
-        work,
-        m,
-        2357,
-        6,
-        18446744073709551615,
-        18446744073709551615,
-        ya,
-        yb,
-    )
+    let accepting = Live {
+        first: cells::accept_mask(work, RULES, m - k),
+        others: cells::accept_mask(work, OTHERS, k),
+    };
+    sections::section(work, m, LINES / 3, 6, Live::ALL, accepting)
 }

@@ -1,26 +1,25 @@
 // Reading the lines that `build` left.
+#![tactic(auto, using(crate::proofs::Reading::range_read), unfolding(crate::specs::Encoding::low_in, crate::specs::Encoding::high_in, crate::specs::Encoding::factor_of, crate::specs::Encoding::base_of))]
+
 ghost use Rattle.std.specs.Prelude.{◌≡◌, ◌<◌, ◌≤◌, length, get_or};
 ghost use Rattle.builder.specs.Encoding.{range_of, low_in, high_in, range_in, line_at};
 
+use crate::LINES;
 use crate::lines::column;
 
-// The low end of dimension d, out of the word of a line that has it.
+// The low end of dimension d, out of the word of a line that has it. Dimensions are numbers, as callers and definitions have them; each has
+// constants of its own here, since a base and a factor by number would have the machine divide.
 fn low_in(d: usize, w: u64) -> u64
     requires { d < 6 }
     ensures { (result ≡ low_in d w) × (result < 4294967296) }
 {
-    if d == 0 {
-        w / 4294967296 / 256 % 256
-    } else if d == 1 {
-        w / 65536 / 256 % 256
-    } else if d == 2 {
-        w / 256 % 256
-    } else if d == 3 {
-        w / 4294967296 % 4294967296
-    } else if d == 4 {
-        w / 4294967296 / 65536 % 65536
-    } else {
-        w / 65536 % 65536
+    match d {
+        0 => w / 4294967296 / 256 % 256,
+        1 => w / 65536 / 256 % 256,
+        2 => w / 256 % 256,
+        3 => w / 4294967296 % 4294967296,
+        4 => w / 4294967296 / 65536 % 65536,
+        _ => w / 65536 % 65536,
     }
 }
 
@@ -29,18 +28,13 @@ fn high_in(d: usize, w: u64) -> u64
     requires { d < 6 }
     ensures { (result ≡ high_in d w) × (result < 4294967296) }
 {
-    if d == 0 {
-        w / 4294967296 % 256
-    } else if d == 1 {
-        w / 65536 % 256
-    } else if d == 2 {
-        w % 256
-    } else if d == 3 {
-        w % 4294967296
-    } else if d == 4 {
-        w / 4294967296 % 65536
-    } else {
-        w % 65536
+    match d {
+        0 => w / 4294967296 % 256,
+        1 => w / 65536 % 256,
+        2 => w % 256,
+        3 => w % 4294967296,
+        4 => w / 4294967296 % 65536,
+        _ => w % 65536,
     }
 }
 
@@ -49,8 +43,6 @@ pub fn range(work: &[u64], i: usize, d: usize) -> u64
     requires { (i < 512) × (d < 6) × (16290 ≤ length work.now) }
     ensures { range_of result ≡ range_in d (get_or work.now (line_at i d) 0) }
 {
-    let c = column(d);
-    let x = 7071 + 3 * i + c;
-    let w = work[x];
+    let w = work[LINES + 3 * i + column(d)];
     low_in(d, w) * 4294967296 + high_in(d, w)
 }

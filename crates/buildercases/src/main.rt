@@ -5,27 +5,11 @@
 
 ghost use Rattle.std.specs.Prelude.{◌≡◌, ◌<◌, ◌≤◌, length};
 
-use builder::Built;
 use files::read_full;
 use std::fs::File;
 use std::io;
 use std::io::{BufReader, BufWriter, Read, Write};
-
-fn wide(b: u8) -> usize
-    ensures { result ≤ 255 }
-{
-    b as usize
-}
-
-fn half(a: u8, b: u8, c: u8, d: u8) -> u64
-    ensures { result ≤ 4294967295 }
-{
-    a as u64 * 16777216 + b as u64 * 65536 + c as u64 * 256 + d as u64
-}
-
-fn word(b: &[u8; 8]) -> u64 {
-    half(b[0], b[1], b[2], b[3]) * 4294967296 + half(b[4], b[5], b[6], b[7])
-}
+use std::net::Ipv4Addr;
 
 // Fills the words from `from` to below `to`.
 fn read_words(cases: &mut impl Read, work: &mut [u64], from: usize, to: usize) -> io::Result<()>
@@ -34,28 +18,17 @@ fn read_words(cases: &mut impl Read, work: &mut [u64], from: usize, to: usize) -
     for i in from..to {
         let mut b = [0u8; 8];
         read_full(cases, &mut b)?;
-        work[i] = word(&b);
+        work[i] = u64::from_be_bytes(b);
     }
     Ok(())
 }
 
-fn put_address(out: &mut impl Write, a: u64) -> io::Result<()> {
-    write!(
-        out,
-        "{}.{}.{}.{}",
-        a / 16777216,
-        a / 65536 % 256,
-        a / 256 % 256,
-        a % 256
-    )
-}
-
-// An end of a range of dimension d.
-fn put_end(out: &mut impl Write, d: usize, v: u64) -> io::Result<()> {
+// An end of a range of dimension d, which is an address where d is 3.
+fn put_end(out: &mut impl Write, d: usize, end: u32) -> io::Result<()> {
     if d == 3 {
-        put_address(out, v)
+        write!(out, "{}", Ipv4Addr::from(end))
     } else {
-        write!(out, "{v}")
+        write!(out, "{end}")
     }
 }
 
@@ -65,9 +38,9 @@ fn put_line(out: &mut impl Write, work: &[u64], i: usize) -> io::Result<()>
     for d in 0..6 {
         let range = builder::table::range(work, i, d);
         out.write_all(b"\t")?;
-        put_end(out, d, range / 4294967296)?;
+        put_end(out, d, (range / 4294967296) as u32)?;
         out.write_all(b"-")?;
-        put_end(out, d, range % 4294967296)?;
+        put_end(out, d, (range % 4294967296) as u32)?;
     }
     out.write_all(b"\n")
 }
@@ -86,8 +59,8 @@ fn put_table(out: &mut impl Write, work: &mut [u64], n: usize) -> io::Result<()>
     requires { (length work.old ≡ 16290) × (n ≤ 66) }
 {
     match builder::build(work, n) {
-        Built::Over => out.write_all(b"\tover\n"),
-        Built::Lines(k) => put_lines(out, work, k),
+        None => out.write_all(b"\tover\n"),
+        Some(k) => put_lines(out, work, k),
     }
 }
 
@@ -107,8 +80,8 @@ fn run_case(cases: &mut impl Read, out: &mut impl Write) -> io::Result<bool> {
     if read_full(cases, &mut head)? < 2 {
         return Ok(false);
     }
-    put_name(cases, out, wide(head[0]))?;
-    let rules = wide(head[1]);
+    put_name(cases, out, head[0].into())?;
+    let rules = usize::from(head[1]);
     if 66 < rules {
         return Ok(false);
     }

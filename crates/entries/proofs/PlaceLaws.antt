@@ -1,132 +1,215 @@
--- Laws of the places of an entry's members.
+-- Laws of the objects of an entry.
 use Prim.Native.Nat.{ℕ}
-use mathlib.Core.Path.{◌≡◌, refl, ◌∙◌, subst}
+use mathlib.Core.Path.{◌≡◌, refl, sym}
 use mathlib.Core.List.{List}
-use mathlib.Core.Bool.{Bool, true, false, ◌&&◌, ◌||◌}
+use mathlib.Core.Bool.{Bool, true, false, ◌&&◌, ◌||◌, and_assoc}
 use borrow.Author.Rules.{rules}
+use Rattle.std.specs.Prelude.{Option, None, Some}
+use Rattle.std.specs.Option.{is_none}
 use Rattle.text.specs.Ascii.{ascii}
-use Rattle.text.specs.Words.{same_bytes}
 use Rattle.flows.specs.declared.Direction.{Direction}
 use Rattle.flows.specs.declared.Direction.TheVariants.{FromDevice, ToDevice}
-use Rattle.values.specs.declared.Found.{Found}
-use Rattle.values.specs.declared.Found.TheVariants.{At, Missing}
-use Rattle.values.specs.Tree.{Json, Members, nothing, member, Maybe, none, some, tree_at, lookup, fields, seen}
-use Rattle.values.specs.Rules.{may, under, all_names}
-use Rattle.header.specs.Asked.{is_among, obeys}
-use Rattle.header.specs.declared.asked.Asked.TheVariants.{Nothing}
-use Rattle.entries.specs.Known.{only, match_names, mud_names, ipv4_names, tcp_names, udp_names, port_names, ports_known}
-use Rattle.entries.specs.Sound.{remote_network, device_network, remote_name, device_name}
-use Rattle.entries.specs.Members.{six_names, SixOf}
-use Rattle.entries.specs.Places.{is_missing, MatchesAt, MudAt, Ipv4At, TcpAt, UdpAt, PortAt, SidesOf, Held, PartsOf}
-use Rattle.entries.specs.declared.members.Six.{Six}
-use Rattle.entries.specs.declared.places.Parts.{Parts}
+use Rattle.values.specs.Tree.{Json, tree_at, lookup, seen, is_object}
+use Rattle.values.specs.Rules.{may, must, under}
+use Rattle.header.specs.Asked.{obeys}
+use Rattle.header.specs.declared.asked.Form.TheVariants.{Network, Forwarding, Operator, Initiator}
+use Rattle.header.specs.declared.asked.Asked.TheVariants.{Text, Nulls, Integer, Spelt, Nothing}
+use Rattle.entries.specs.Known.{inside_known, only, match_names, mud_names, ipv4_names, tcp_names, udp_names, port_names, ports_known, matches_known, entry_known}
+use Rattle.entries.specs.Sound.{strings_ok, nulls_ok, mud_ok, remote_network, device_network, remote_name, device_name, sides_named, sides_ok, ipv4_ok, in_order, ordered, is_range_form, is_operator_form, port_ok, ports_ok, tcp_ok, protocol_is, tcp_beside, udp_beside, transport_ok, matches_ok, actions_ok, entry_ok}
+use Rattle.entries.specs.declared.places.Mud.{Mud}
+use Rattle.entries.specs.declared.places.Ipv4.{Ipv4}
+use Rattle.entries.specs.declared.places.Port.{Port}
+use Rattle.entries.specs.declared.places.Tcp.{Tcp}
+use Rattle.entries.specs.declared.places.Udp.{Udp}
+use Rattle.entries.specs.declared.places.Matches.{Matches}
+use Rattle.entries.specs.declared.places.Entry.{Entry}
+use Rattle.entries.specs.declared.places.Sides.{Sides}
+use Rattle.entries.specs.Places.{SidesOf}
 
--- ## a name that is given again changes nothing
-all_same : {P Q : List ℕ → Bool} → ((n : List ℕ) → P n ≡ Q n) → (ms : Members) → all_names P ms ≡ all_names Q ms
-unfolding all_names
-all_same h nothing = refl
-all_same h (member n j ms) = rw (h n, all_same h ms)
+-- ## rules over what may be missing
+may_under : (w : List ℕ) (m : Option Json) (g : Json → Bool) → may m (λ j. may (lookup w j) g) ≡ may (under w m) g
+may_under w None g = refl
+may_under w (Some j) g = refl
 
-may_same : (names others : List (List ℕ)) → ((n : List ℕ) → is_among n names ≡ is_among n others) → (m : Maybe) → may m (only names) ≡ may m (only others)
-may_same names others h none = refl
-may_same names others h (some j) = all_same h (fields j)
+may_strings : (m : Option Json) → may m strings_ok ≡ (may (under (ascii "manufacturer") m) (obeys Text) && (may (under (ascii "model") m) (obeys Text) && may (under (ascii "controller") m) (obeys Text)))
+unfolding strings_ok
+may_strings None = refl
+may_strings (Some j) = refl
 
-matches_again : (a b c d : Bool) → (a || (b || (c || (d || (d || (d || false)))))) ≡ (a || (b || (c || (d || false))))
-matches_again a b c true = refl
-matches_again a b c false = refl
+may_nulls : (m : Option Json) → may m nulls_ok ≡ (may (under (ascii "same-manufacturer") m) (obeys Nulls) && (may (under (ascii "local-networks") m) (obeys Nulls) && may (under (ascii "my-controller") m) (obeys Nulls)))
+unfolding nulls_ok
+may_nulls None = refl
+may_nulls (Some j) = refl
 
-ipv4_again : (a b c d e : Bool) → (a || (b || (c || (d || (e || (a || false)))))) ≡ (a || (b || (c || (d || (e || false)))))
-ipv4_again true b c d e = refl
-ipv4_again false b c d e = refl
+pub mud_is : (m : Option Json) → may m mud_ok ≡ (may m is_object && (may m strings_ok && may m nulls_ok))
+unfolding mud_ok
+mud_is None = refl
+mud_is (Some j) = refl
 
-port_again : (a b c d : Bool) → (a || (b || (c || (d || (a || (a || false)))))) ≡ (a || (b || (c || (d || false))))
-port_again true b c d = refl
-port_again false b c d = refl
+may_sides : (d : Direction) (m : Option Json) → may m (sides_ok d) ≡ (may (under (remote_network d) m) (obeys (Spelt Network)) && (may (under (remote_name d) m) (obeys Text) && (may (under (device_network d) m) (obeys Nothing) && may (under (device_name d) m) (obeys Nothing))))
+unfolding sides_named sides_ok
+may_sides d None = refl
+may_sides d (Some j) = refl
 
-tcp_again : (a b c : Bool) → (a || (b || (c || (a || (a || (a || false)))))) ≡ (a || (b || (c || false)))
-tcp_again true b c = refl
-tcp_again false b c = refl
+may_ipv4 : (d : Direction) (m : Option Json) → may m (ipv4_ok d) ≡ (may m is_object && (may (under (ascii "protocol") m) (obeys (Integer 0 255)) && may m (sides_ok d)))
+unfolding ipv4_ok
+may_ipv4 d None = refl
+may_ipv4 d (Some j) = refl
 
-udp_again : (a b : Bool) → (a || (b || (a || (a || (a || (a || false)))))) ≡ (a || (b || false))
-udp_again true b = refl
-udp_again false b = refl
+must_ordered : (m : Option Json) → must m ordered ≡ must (under (ascii "lower-port") m) (λ low. must (under (ascii "upper-port") m) (λ high. in_order low high))
+unfolding ordered
+must_ordered None = refl
+must_ordered (Some j) = refl
 
-module _ (m : Maybe) {r : Bool} where
-  matches_listed : r ≡ may m (only (six_names (ascii "ietf-mud:mud") (ascii "ipv4") (ascii "tcp") (ascii "udp") (ascii "udp") (ascii "udp"))) → r ≡ may m (only match_names)
-  unfolding is_among
-  matches_listed h = h ∙ may_same (six_names (ascii "ietf-mud:mud") (ascii "ipv4") (ascii "tcp") (ascii "udp") (ascii "udp") (ascii "udp")) match_names (λ n. matches_again (same_bytes n (ascii "ietf-mud:mud")) (same_bytes n (ascii "ipv4")) (same_bytes n (ascii "tcp")) (same_bytes n (ascii "udp"))) m
+must_range : (m : Option Json) → must m is_range_form ≡ (must m ordered && (may (under (ascii "port") m) (obeys Nothing) && may (under (ascii "operator") m) (obeys Nothing)))
+unfolding is_range_form
+must_range None = refl
+must_range (Some j) = refl
 
-  ipv4_listed : r ≡ may m (only (six_names (ascii "protocol") (ascii "source-ipv4-network") (ascii "destination-ipv4-network") (ascii "ietf-acldns:src-dnsname") (ascii "ietf-acldns:dst-dnsname") (ascii "protocol"))) → r ≡ may m (only ipv4_names)
-  unfolding is_among
-  ipv4_listed h = h ∙ may_same (six_names (ascii "protocol") (ascii "source-ipv4-network") (ascii "destination-ipv4-network") (ascii "ietf-acldns:src-dnsname") (ascii "ietf-acldns:dst-dnsname") (ascii "protocol")) ipv4_names (λ n. ipv4_again (same_bytes n (ascii "protocol")) (same_bytes n (ascii "source-ipv4-network")) (same_bytes n (ascii "destination-ipv4-network")) (same_bytes n (ascii "ietf-acldns:src-dnsname")) (same_bytes n (ascii "ietf-acldns:dst-dnsname"))) m
+must_operator : (m : Option Json) → must m is_operator_form ≡ (must (under (ascii "port") m) (obeys (Integer 0 65535)) && (may (under (ascii "operator") m) (obeys (Spelt Operator)) && (may (under (ascii "lower-port") m) (obeys Nothing) && may (under (ascii "upper-port") m) (obeys Nothing))))
+unfolding is_operator_form
+must_operator None = refl
+must_operator (Some j) = refl
 
-  port_listed : r ≡ may m (only (six_names (ascii "lower-port") (ascii "upper-port") (ascii "port") (ascii "operator") (ascii "lower-port") (ascii "lower-port"))) → r ≡ may m (only port_names)
-  unfolding is_among
-  port_listed h = h ∙ may_same (six_names (ascii "lower-port") (ascii "upper-port") (ascii "port") (ascii "operator") (ascii "lower-port") (ascii "lower-port")) port_names (λ n. port_again (same_bytes n (ascii "lower-port")) (same_bytes n (ascii "upper-port")) (same_bytes n (ascii "port")) (same_bytes n (ascii "operator"))) m
+pub port_is : (m : Option Json) → must m port_ok ≡ (must m is_range_form || must m is_operator_form)
+unfolding port_ok
+port_is None = refl
+port_is (Some j) = refl
 
-  tcp_listed : r ≡ may m (only (six_names (ascii "source-port") (ascii "destination-port") (ascii "ietf-mud:direction-initiated") (ascii "source-port") (ascii "source-port") (ascii "source-port"))) → r ≡ may m (only tcp_names)
-  unfolding is_among
-  tcp_listed h = h ∙ may_same (six_names (ascii "source-port") (ascii "destination-port") (ascii "ietf-mud:direction-initiated") (ascii "source-port") (ascii "source-port") (ascii "source-port")) tcp_names (λ n. tcp_again (same_bytes n (ascii "source-port")) (same_bytes n (ascii "destination-port")) (same_bytes n (ascii "ietf-mud:direction-initiated"))) m
+may_ports : (m : Option Json) → may m ports_ok ≡ (may m is_object && (may (under (ascii "source-port") m) (port_ok) && may (under (ascii "destination-port") m) (port_ok)))
+unfolding ports_ok
+may_ports None = refl
+may_ports (Some j) = refl
 
-  udp_listed : r ≡ may m (only (six_names (ascii "source-port") (ascii "destination-port") (ascii "source-port") (ascii "source-port") (ascii "source-port") (ascii "source-port"))) → r ≡ may m (only udp_names)
-  unfolding is_among
-  udp_listed h = h ∙ may_same (six_names (ascii "source-port") (ascii "destination-port") (ascii "source-port") (ascii "source-port") (ascii "source-port") (ascii "source-port")) udp_names (λ n. udp_again (same_bytes n (ascii "source-port")) (same_bytes n (ascii "destination-port"))) m
+may_tcp : (m : Option Json) → may m tcp_ok ≡ (may m ports_ok && may (under (ascii "ietf-mud:direction-initiated") m) (obeys (Spelt Initiator)))
+unfolding tcp_ok
+may_tcp None = refl
+may_tcp (Some j) = refl
 
--- ## the parts of an entry
-pub parts_are : (s : List ℕ) (entry : ℕ) {e m i : Six} {w x y z : List ℕ} → SixOf 10 s (ascii "actions") (ascii "matches") w x y z (At entry) e → MatchesAt s e.second m → Ipv4At s m.second i → PartsOf s entry (record { actions = e.first; matches = e.second; mud = m.first; ipv4 = m.second; tcp = m.third; udp = m.fourth; listed = m.listed; in_ipv4 = i })
-parts_are s entry {e} a b c =
-    record {
-      actions = a.first;
-      matches = a.second;
-      held = record { mud = b.first; ipv4 = b.second; tcp = b.third; udp = b.fourth; listed = matches_listed (seen (tree_at 9 s) e.second) b.listed; in_ipv4 = c };
-    }
+may_protocol : (n : ℕ) (m : Option Json) → may m (protocol_is n) ≡ may (under (ascii "protocol") (under (ascii "ipv4") m)) (obeys (Integer n n))
+unfolding protocol_is
+may_protocol n None = refl
+may_protocol n (Some j) = may_under (ascii "protocol") (lookup (ascii "ipv4") j) (obeys (Integer n n))
 
-module _ (d : Direction) (s : List ℕ) (f : Found) {m : Six} (h : Ipv4At s f m) where
-  pub sides_from : d ≡ FromDevice → SidesOf d s f (record { network = m.third; name = m.fifth; elsewhere = m.second; stranger = m.fourth })
-  unfolding remote_network remote_name device_network device_name
-  sides_from q = rw q (record { network = h.third; name = h.fifth; elsewhere = h.second; stranger = h.fourth })
-
-  pub sides_to : d ≡ ToDevice → SidesOf d s f (record { network = m.second; name = m.fourth; elsewhere = m.third; stranger = m.fifth })
-  unfolding remote_network remote_name device_network device_name
-  sides_to q = rw q (record { network = h.second; name = h.fourth; elsewhere = h.third; stranger = h.fifth })
-
--- ## at the place found
-module _ {s : List ℕ} {f : Found} {p : ℕ} (q : f ≡ At p) where
-  pub held_at : {e : Parts} → Held s f e → Held s (At p) e
-  held_at {e} h = subst (λ (x : Found). Held s x e) q h
-
-  pub six_at : {depth : ℕ} {a b c d e g : List ℕ} {m : Six} → SixOf depth s a b c d e g f m → SixOf depth s a b c d e g (At p) m
-  six_at {depth} {a} {b} {c} {d} {e} {g} {m} h = subst (λ (x : Found). SixOf depth s a b c d e g x m) q h
-
--- ## all members are listed
-module _ {s : List ℕ} {f : Found} {m : Six} where
-  pub lists_mud : MudAt s f m → m.listed ≡ may (seen (tree_at 8 s) f) (only mud_names)
-  lists_mud h = h.listed
-
-  pub lists_ipv4 : Ipv4At s f m → m.listed ≡ may (seen (tree_at 8 s) f) (only ipv4_names)
-  lists_ipv4 h = ipv4_listed (seen (tree_at 8 s) f) h.listed
-
-  pub lists_port : PortAt s f m → m.listed ≡ may (seen (tree_at 7 s) f) (only port_names)
-  lists_port h = port_listed (seen (tree_at 7 s) f) h.listed
-
-ports_under : (names : List (List ℕ)) (m : Maybe) → (may m (only names) && (may (under (ascii "source-port") m) (only port_names) && may (under (ascii "destination-port") m) (only port_names))) ≡ may m (ports_known names)
+may_ports_known : (names : List (List ℕ)) (m : Option Json) → may m (ports_known names) ≡ (may m (only names) && (may (under (ascii "source-port") m) (only port_names) && may (under (ascii "destination-port") m) (only port_names)))
 unfolding ports_known
-ports_under names none = refl
-ports_under names (some j) = refl
+may_ports_known names None = refl
+may_ports_known names (Some j) = refl
 
-module _ {s : List ℕ} (f : Found) {m : Six} {r : Bool} (q : r ≡ (m.listed && (may (seen (tree_at 7 s) m.first) (only port_names) && may (seen (tree_at 7 s) m.second) (only port_names)))) where
-  pub lists_tcp : TcpAt s f m → r ≡ may (seen (tree_at 8 s) f) (ports_known tcp_names)
-  lists_tcp h = q ∙ rw (tcp_listed (seen (tree_at 8 s) f) h.listed, ← h.first, ← h.second) (ports_under tcp_names (seen (tree_at 8 s) f))
+may_inside : (m : Option Json) → may m inside_known ≡ (may (under (ascii "ietf-mud:mud") m) (only mud_names) && (may (under (ascii "ipv4") m) (only ipv4_names) && (may (under (ascii "tcp") m) (ports_known tcp_names) && may (under (ascii "udp") m) (ports_known udp_names))))
+may_inside None = refl
+may_inside (Some j) = refl
 
-  pub lists_udp : UdpAt s f m → r ≡ may (seen (tree_at 8 s) f) (ports_known udp_names)
-  lists_udp h = q ∙ rw (udp_listed (seen (tree_at 8 s) f) h.listed, ← h.first, ← h.second) (ports_under udp_names (seen (tree_at 8 s) f))
+may_known : (m : Option Json) → may m matches_known ≡ (may m (only match_names) && may m inside_known)
+unfolding matches_known
+may_known None = refl
+may_known (Some j) = refl
 
--- ## what is missing
-pub absent_is : (w : List ℕ) (j : Json) (d : ℕ) (s : List ℕ) (f : Found) → lookup w j ≡ seen (tree_at d s) f → {b : Bool} → b ≡ is_missing f → b ≡ may (lookup w j) (obeys Nothing)
-absent_is w j d s f e h = rw e (h ∙ go f)
-  where
-    go : (f : Found) → is_missing f ≡ may (seen (tree_at d s) f) (obeys Nothing)
-    go Missing = refl
-    go (At p) = refl
+may_matches : (d : Direction) (m : Option Json) → may m (matches_ok d) ≡ (may m is_object && (may (under (ascii "ietf-mud:mud") m) (mud_ok) && (may (under (ascii "ipv4") m) (ipv4_ok d) && (may m (λ j. may (lookup (ascii "tcp") j) (tcp_beside j)) && may m (λ j. may (lookup (ascii "udp") j) (udp_beside j))))))
+unfolding matches_ok transport_ok
+may_matches d None = refl
+may_matches d (Some j) = refl
 
-pub ruleset placing = (rules, parts_are, sides_from, sides_to)
+-- `tcp` and `udp` of the matches
+beside_tcp : (m : Option Json) (d : ℕ) (s : List ℕ) (f u : Option ℕ) → under (ascii "tcp") m ≡ seen (tree_at d s) f → under (ascii "udp") m ≡ seen (tree_at d s) u → may m (λ j. may (lookup (ascii "tcp") j) (tcp_beside j)) ≡ (is_none f || ((may (seen (tree_at d s) f) tcp_ok && is_none u) && may m (protocol_is 6)))
+unfolding tcp_beside
+beside_tcp None d s None u e h = refl
+beside_tcp None d s (Some p) u e h = cc
+beside_tcp (Some j) d s None u e h = rw e
+beside_tcp (Some j) d s (Some p) None e h = rw (e, h) (sym (and_assoc (tcp_ok (tree_at d s p)) true (protocol_is 6 j)))
+beside_tcp (Some j) d s (Some p) (Some q) e h = rw (e, h) (sym (and_assoc (tcp_ok (tree_at d s p)) false (protocol_is 6 j)))
+
+beside_udp : (m : Option Json) (d : ℕ) (s : List ℕ) (u : Option ℕ) → under (ascii "udp") m ≡ seen (tree_at d s) u → may m (λ j. may (lookup (ascii "udp") j) (udp_beside j)) ≡ (is_none u || (may (seen (tree_at d s) u) ports_ok && may m (protocol_is 17)))
+unfolding udp_beside
+beside_udp None d s None e = refl
+beside_udp None d s (Some p) e = cc
+beside_udp (Some j) d s None e = rw e
+beside_udp (Some j) d s (Some p) e = rw e
+
+-- ## the objects of an entry
+module _ (m : Mud) where
+  pub mud_listed : m.listed ≡ may (seen (tree_at 8 m.s.now) m.found) (only mud_names)
+  mud_listed = m.held.listed_is
+
+  pub strings_are : may (seen (tree_at 8 m.s.now) m.found) strings_ok ≡ (may (seen (tree_at 7 m.s.now) m.manufacturer) (obeys Text) && (may (seen (tree_at 7 m.s.now) m.model) (obeys Text) && may (seen (tree_at 7 m.s.now) m.controller) (obeys Text)))
+  strings_are = rw (may_strings (seen (tree_at 8 m.s.now) m.found), m.held.manufacturer_is, m.held.model_is, m.held.controller_is)
+
+  pub nulls_are : may (seen (tree_at 8 m.s.now) m.found) nulls_ok ≡ (may (seen (tree_at 7 m.s.now) m.kin) (obeys Nulls) && (may (seen (tree_at 7 m.s.now) m.local) (obeys Nulls) && may (seen (tree_at 7 m.s.now) m.mine) (obeys Nulls)))
+  nulls_are = rw (may_nulls (seen (tree_at 8 m.s.now) m.found), m.held.kin_is, m.held.local_is, m.held.mine_is)
+
+module _ (i : Ipv4) where
+  pub ipv4_listed : i.listed ≡ may (seen (tree_at 8 i.s.now) i.found) (only ipv4_names)
+  ipv4_listed = i.held.listed_is
+
+  module _ (d : Direction) where
+    pub sides_from : d ≡ FromDevice → SidesOf d i.s.now i.found (record { network = i.destination; name = i.receiver; elsewhere = i.source; stranger = i.sender })
+    unfolding remote_network remote_name device_network device_name
+    sides_from q = rw q (record { network = i.held.destination_is; name = i.held.receiver_is; elsewhere = i.held.source_is; stranger = i.held.sender_is })
+
+    pub sides_to : d ≡ ToDevice → SidesOf d i.s.now i.found (record { network = i.source; name = i.sender; elsewhere = i.destination; stranger = i.receiver })
+    unfolding remote_network remote_name device_network device_name
+    sides_to q = rw q (record { network = i.held.source_is; name = i.held.sender_is; elsewhere = i.held.destination_is; stranger = i.held.receiver_is })
+
+    pub ipv4_is : may (seen (tree_at 8 i.s.now) i.found) (ipv4_ok d) ≡ (may (seen (tree_at 8 i.s.now) i.found) is_object && (may (seen (tree_at 7 i.s.now) i.protocol) (obeys (Integer 0 255)) && may (seen (tree_at 8 i.s.now) i.found) (sides_ok d)))
+    ipv4_is = rw (may_ipv4 d (seen (tree_at 8 i.s.now) i.found), i.held.protocol_is)
+
+pub sides_are : (d : Direction) (s : List ℕ) (f : Option ℕ) {x : Sides} → SidesOf d s f x → may (seen (tree_at 8 s) f) (sides_ok d) ≡ (may (seen (tree_at 7 s) x.network) (obeys (Spelt Network)) && (may (seen (tree_at 7 s) x.name) (obeys Text) && (may (seen (tree_at 7 s) x.elsewhere) (obeys Nothing) && may (seen (tree_at 7 s) x.stranger) (obeys Nothing))))
+sides_are d s f h = rw (may_sides d (seen (tree_at 8 s) f), h.network, h.name, h.elsewhere, h.stranger)
+
+module _ (p : Port) where
+  pub port_listed : p.listed ≡ may (seen (tree_at 7 p.s.now) p.found) (only port_names)
+  port_listed = p.held.listed_is
+
+  pub ordered_is : must (seen (tree_at 7 p.s.now) p.found) ordered ≡ must (seen (tree_at 6 p.s.now) p.lower) (λ low. must (seen (tree_at 6 p.s.now) p.upper) (λ high. in_order low high))
+  ordered_is = rw (must_ordered (seen (tree_at 7 p.s.now) p.found), p.held.lower_is, p.held.upper_is)
+
+  pub range_is : must (seen (tree_at 7 p.s.now) p.found) is_range_form ≡ (must (seen (tree_at 7 p.s.now) p.found) ordered && (may (seen (tree_at 6 p.s.now) p.port) (obeys Nothing) && may (seen (tree_at 6 p.s.now) p.operator) (obeys Nothing)))
+  range_is = rw (must_range (seen (tree_at 7 p.s.now) p.found), p.held.port_is, p.held.operator_is)
+
+  pub operator_is : must (seen (tree_at 7 p.s.now) p.found) is_operator_form ≡ (must (seen (tree_at 6 p.s.now) p.port) (obeys (Integer 0 65535)) && (may (seen (tree_at 6 p.s.now) p.operator) (obeys (Spelt Operator)) && (may (seen (tree_at 6 p.s.now) p.lower) (obeys Nothing) && may (seen (tree_at 6 p.s.now) p.upper) (obeys Nothing))))
+  operator_is = rw (must_operator (seen (tree_at 7 p.s.now) p.found), p.held.port_is, p.held.operator_is, p.held.lower_is, p.held.upper_is)
+
+module _ (t : Tcp) where
+  pub tcp_known : may (seen (tree_at 8 t.s.now) t.found) (ports_known tcp_names) ≡ (t.listed && (may (seen (tree_at 7 t.s.now) t.source) (only port_names) && may (seen (tree_at 7 t.s.now) t.destination) (only port_names)))
+  tcp_known = rw (may_ports_known tcp_names (seen (tree_at 8 t.s.now) t.found), t.held.source_is, t.held.destination_is, t.held.listed_is)
+
+  pub ports_are : may (seen (tree_at 8 t.s.now) t.found) ports_ok ≡ (may (seen (tree_at 8 t.s.now) t.found) is_object && (may (seen (tree_at 7 t.s.now) t.source) port_ok && may (seen (tree_at 7 t.s.now) t.destination) port_ok))
+  ports_are = rw (may_ports (seen (tree_at 8 t.s.now) t.found), t.held.source_is, t.held.destination_is)
+
+  pub tcp_is : may (seen (tree_at 8 t.s.now) t.found) tcp_ok ≡ (may (seen (tree_at 8 t.s.now) t.found) ports_ok && may (seen (tree_at 7 t.s.now) t.initiated) (obeys (Spelt Initiator)))
+  tcp_is = rw (may_tcp (seen (tree_at 8 t.s.now) t.found), t.held.initiated_is)
+
+module _ (u : Udp) where
+  pub udp_known : may (seen (tree_at 8 u.s.now) u.found) (ports_known udp_names) ≡ (u.listed && (may (seen (tree_at 7 u.s.now) u.source) (only port_names) && may (seen (tree_at 7 u.s.now) u.destination) (only port_names)))
+  udp_known = rw (may_ports_known udp_names (seen (tree_at 8 u.s.now) u.found), u.held.source_is, u.held.destination_is, u.held.listed_is)
+
+module _ (m : Matches) where
+  pub inside_is : may (seen (tree_at 9 m.s.now) m.found) inside_known ≡ (may (seen (tree_at 8 m.s.now) m.mud) (only mud_names) && (m.ipv4.listed && (may (seen (tree_at 8 m.s.now) m.tcp) (ports_known tcp_names) && may (seen (tree_at 8 m.s.now) m.udp) (ports_known udp_names))))
+  inside_is = rw (may_inside (seen (tree_at 9 m.s.now) m.found), m.held.mud_is, m.held.ipv4_is, m.held.tcp_is, m.held.udp_is, m.ipv4.held.listed_is, m.in_file)
+
+  pub protocol_stands : (n : ℕ) → may (seen (tree_at 9 m.s.now) m.found) (protocol_is n) ≡ may (seen (tree_at 7 m.s.now) m.ipv4.protocol) (obeys (Integer n n))
+  protocol_stands n = rw (may_protocol n (seen (tree_at 9 m.s.now) m.found), m.held.ipv4_is, ← m.in_file, m.ipv4.held.protocol_is)
+
+  pub tcp_stands : may (seen (tree_at 9 m.s.now) m.found) (λ j. may (lookup (ascii "tcp") j) (tcp_beside j)) ≡ (is_none m.tcp || ((may (seen (tree_at 8 m.s.now) m.tcp) tcp_ok && is_none m.udp) && may (seen (tree_at 9 m.s.now) m.found) (protocol_is 6)))
+  tcp_stands = beside_tcp (seen (tree_at 9 m.s.now) m.found) 8 m.s.now m.tcp m.udp m.held.tcp_is m.held.udp_is
+
+  pub udp_stands : may (seen (tree_at 9 m.s.now) m.found) (λ j. may (lookup (ascii "udp") j) (udp_beside j)) ≡ (is_none m.udp || (may (seen (tree_at 8 m.s.now) m.udp) ports_ok && may (seen (tree_at 9 m.s.now) m.found) (protocol_is 17)))
+  udp_stands = beside_udp (seen (tree_at 9 m.s.now) m.found) 8 m.s.now m.udp m.held.udp_is
+
+  pub matches_are : (d : Direction) → may (seen (tree_at 9 m.s.now) m.found) (matches_ok d) ≡ (may (seen (tree_at 9 m.s.now) m.found) is_object && (may (seen (tree_at 8 m.s.now) m.mud) mud_ok && (may (seen (tree_at 8 m.ipv4.s.now) m.ipv4.found) (ipv4_ok d) && (may (seen (tree_at 9 m.s.now) m.found) (λ j. may (lookup (ascii "tcp") j) (tcp_beside j)) && may (seen (tree_at 9 m.s.now) m.found) (λ j. may (lookup (ascii "udp") j) (udp_beside j))))))
+  matches_are d = rw (may_matches d (seen (tree_at 9 m.s.now) m.found), m.held.mud_is, m.held.ipv4_is, m.in_file)
+
+module _ (e : Entry) where
+  pub entry_known_is : entry_known (tree_at 10 e.s.now e.at) ≡ (e.matches.listed && may (seen (tree_at 9 e.matches.s.now) e.matches.found) inside_known)
+  unfolding entry_known
+  entry_known_is = rw (e.held.matches_is, ← e.in_file, e.matches.held.listed_is) (may_known (seen (tree_at 9 e.matches.s.now) e.matches.found))
+
+  pub action_is : must (lookup (ascii "actions") (tree_at 10 e.s.now e.at)) actions_ok ≡ must (seen (tree_at 9 e.s.now) e.actions) (λ j. must (lookup (ascii "forwarding") j) (obeys (Spelt Forwarding)))
+  unfolding actions_ok
+  action_is = rw (e.held.actions_is)
+
+  pub entry_is : (d : Direction) → entry_ok d (tree_at 10 e.s.now e.at) ≡ (must (lookup (ascii "actions") (tree_at 10 e.s.now e.at)) actions_ok && may (seen (tree_at 9 e.matches.s.now) e.matches.found) (matches_ok d))
+  unfolding entry_ok
+  entry_is d = rw (e.held.matches_is, e.in_file)
+
+pub ruleset placing = (rules, mud_is, port_is, mud_listed, strings_are, nulls_are, ipv4_listed, sides_from, sides_to, ipv4_is, sides_are, port_listed, ordered_is, range_is, operator_is, tcp_known, ports_are, tcp_is, udp_known, inside_is, protocol_stands, tcp_stands, udp_stands, matches_are, entry_known_is, action_is, entry_is)

@@ -1,10 +1,8 @@
 -- Number 10 (document 01, 'Answer numbers'): "in an entry read: any other breach in `matches` or `actions`".
-use Rattle.std.specs.Prelude.{ℕ, List, Bool, false, ◌&&◌, ◌||◌, leb}
+use Rattle.std.specs.Prelude.{ℕ, List, Bool, false, ◌&&◌, ◌||◌, leb, Option, None, Some}
 use Rattle.text.specs.Ascii.{ascii}
 use Rattle.flows.specs.declared.Direction.{Direction}
 use Rattle.flows.specs.declared.Direction.TheVariants.{FromDevice, ToDevice}
-use Rattle.values.specs.declared.Count.{Count}
-use Rattle.values.specs.declared.Count.TheVariants.{Is, Not}
 use Rattle.values.specs.Tree.{Json, lookup, is_object, count_of}
 use Rattle.values.specs.Rules.{must, may}
 use Rattle.header.specs.Asked.{obeys}
@@ -65,10 +63,10 @@ unfoldable pub ipv4_ok : Direction → Json → Bool
 ipv4_ok d j = is_object j && (may (lookup (ascii "protocol") j) (obeys (Integer 0 255)) && sides_ok d j)
 
 -- ## ports
-abbrev pub not_above : Count → Count → Bool
-not_above Not b = false
-not_above (Is low) Not = false
-not_above (Is low) (Is high) = leb low high
+abbrev pub not_above : Option ℕ → Option ℕ → Bool
+not_above None b = false
+not_above (Some low) None = false
+not_above (Some low) (Some high) = leb low high
 
 -- "All ports are integers to 65535."; "`lower-port` and `upper-port`, low not above high"
 unfoldable pub in_order : Json → Json → Bool

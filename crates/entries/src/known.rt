@@ -1,102 +1,53 @@
 // Number 9: members that are not listed.
+#![tactic(auto, using(crate::proofs::PlaceLaws::placing))]
+
 ghost use Rattle.std.specs.Prelude.{◌≡◌, ◌&&◌};
 ghost use Rattle.values.specs.Tree.{tree_at, seen};
 ghost use Rattle.values.specs.Rules.{may};
-ghost use Rattle.values.specs.declared.Found.TheVariants.{At};
-ghost use Rattle.entries.specs.Known.{only, ipv4_names, mud_names, tcp_names, udp_names, port_names, ports_known, inside_known, matches_known, entry_known};
-ghost use Rattle.entries.specs.Places.{Ipv4At, Held, PartsOf};
+ghost use Rattle.entries.specs.Known.{only, tcp_names, udp_names, port_names, ports_known, inside_known, entry_known};
 
-use crate::members::Six;
-use crate::places::{Parts, mud_at, port_at, tcp_at, udp_at};
-use values::Found;
+use crate::places::{Entry, Matches, Tcp, Udp, mud_at, port_at, tcp_at, udp_at};
 
-fn may_list_mud(s: &[u8], found: Found) -> bool
-    ensures { result ≡ may (seen (tree_at 8 s.now) found) (only mud_names) }
+// The port objects of a `tcp` or `udp`.
+fn are_listed(s: &[u8], source: Option<usize>, destination: Option<usize>) -> bool
+    ensures { result ≡ (may (seen (tree_at 7 s.now) source) (only port_names) && may (seen (tree_at 7 s.now) destination) (only port_names)) }
 {
-    let m = mud_at(s, found);
-    m.listed
+    port_at(s, source).listed && port_at(s, destination).listed
 }
 
-fn may_list_ipv4(s: &[u8], found: Found, m: Six) -> bool
-    requires { Ipv4At s.now found m }
-    ensures { result ≡ may (seen (tree_at 8 s.now) found) (only ipv4_names) }
-{
-    m.listed
-}
-
-fn may_list_port(s: &[u8], found: Found) -> bool
-    ensures { result ≡ may (seen (tree_at 7 s.now) found) (only port_names) }
-{
-    let m = port_at(s, found);
-    m.listed
-}
-
-// Of the `tcp` or `udp` whose members these are.
-fn ports_listed(s: &[u8], m: Six) -> bool
-    ensures { result ≡ (m.listed && (may (seen (tree_at 7 s.now) m.first) (only port_names) && may (seen (tree_at 7 s.now) m.second) (only port_names))) }
-{
-    if !m.listed {
-        return false;
+impl Tcp<'_> {
+    fn is_known(&self) -> bool
+        ensures { result ≡ may (seen (tree_at 8 self.now.s.now) self.now.found) (ports_known tcp_names) }
+    {
+        self.listed && are_listed(self.s, self.source, self.destination)
     }
-    let source = m.first;
-    if !may_list_port(s, source) {
-        return false;
-    }
-    let destination = m.second;
-    may_list_port(s, destination)
 }
 
-fn may_list_tcp(s: &[u8], found: Found) -> bool
-    ensures { result ≡ may (seen (tree_at 8 s.now) found) (ports_known tcp_names) }
-{
-    ports_listed(s, tcp_at(s, found))
+impl Udp<'_> {
+    fn is_known(&self) -> bool
+        ensures { result ≡ may (seen (tree_at 8 self.now.s.now) self.now.found) (ports_known udp_names) }
+    {
+        self.listed && are_listed(self.s, self.source, self.destination)
+    }
 }
 
-fn may_list_udp(s: &[u8], found: Found) -> bool
-    ensures { result ≡ may (seen (tree_at 8 s.now) found) (ports_known udp_names) }
-{
-    ports_listed(s, udp_at(s, found))
+impl Matches<'_> {
+    // In the objects that they hold.
+    fn is_inside_known(&self) -> bool
+        ensures { result ≡ may (seen (tree_at 9 self.now.s.now) self.now.found) inside_known }
+    {
+        mud_at(self.s, self.mud).listed
+            && self.ipv4.listed
+            && tcp_at(self.s, self.tcp).is_known()
+            && udp_at(self.s, self.udp).is_known()
+    }
 }
 
-// In the objects that the matches at a place hold.
-fn inside_known(s: &[u8], at: usize, e: Parts) -> bool
-    requires { Held s.now (At at) e }
-    ensures { result ≡ inside_known (tree_at 9 s.now at) }
-{
-    let mud = e.mud;
-    if !may_list_mud(s, mud) {
-        return false;
-    }
-    let ipv4 = e.ipv4;
-    if !may_list_ipv4(s, ipv4, e.in_ipv4) {
-        return false;
-    }
-    let tcp = e.tcp;
-    if !may_list_tcp(s, tcp) {
-        return false;
-    }
-    let udp = e.udp;
-    may_list_udp(s, udp)
-}
-
-fn matches_known(s: &[u8], at: usize, e: Parts) -> bool
-    requires { Held s.now (At at) e }
-    ensures { result ≡ matches_known (tree_at 9 s.now at) }
-{
-    if !e.listed {
-        return false;
-    }
-    inside_known(s, at, e)
-}
-
-// Whether the entry whose parts these are has only members that are listed, in `matches` and below.
-pub fn is_known(s: &[u8], entry: usize, e: Parts) -> bool
-    requires { PartsOf s.now entry e }
-    ensures { result ≡ entry_known (tree_at 10 s.now entry) }
-{
-    let matches = e.matches;
-    match matches {
-        Found::Missing => true,
-        Found::At(p) => matches_known(s, p, e),
+impl Entry<'_> {
+    // Whether it has only members that are listed, in `matches` and below.
+    pub fn is_known(&self) -> bool
+        ensures { result ≡ entry_known (tree_at 10 self.now.s.now self.now.at) }
+    {
+        self.matches.listed && self.matches.is_inside_known()
     }
 }

@@ -2,8 +2,8 @@
 // at depth 10 of the file's 16, and what is in them deeper.
 #![tactic(auto)]
 
-pub mod known; // number 9
-pub mod members; // six members of one object
+mod known; // number 9
+mod members; // some members of one object
 pub mod places; // where all of them stand
 mod ports;
-pub mod sound; // number 10
+mod sound; // number 10

@@ -1,7 +1,7 @@
-// What the programs read: a buffer that is filled from a reader or from a file.
+// What the programs read: a buffer that is filled from a reader or from a file, and where its zeros begin.
 #![tactic(auto)]
 
-ghost use Rattle.std.specs.Prelude.{◌≡◌, ◌<◌, ◌≤◌, length, take, IfOk};
+ghost use Rattle.std.specs.Prelude.{◌≡◌, ◌≢◌, ℕ, ◌<◌, ◌≤◌, length, slice_index, take, IfOk};
 ghost use Rattle.std.specs.Io.KnownBytes.{Consumes, IsAtEnd};
 
 use std::fs::File;
@@ -46,4 +46,13 @@ pub fn load(files: &impl Files, path: &str, buf: &mut [u8]) -> usize
         let _ended = fill(&mut file, buf, &mut came).is_ok();
     }
     came
+}
+
+// How many bytes stand before the first 0.
+pub fn first_zero(s: &[u8]) -> usize
+    ensures within { result ≤ length s.now }
+    ensures before { (k : ℕ) → k < result → slice_index s.now k ≢ 0 }
+    ensures found { result < length s.now → slice_index s.now result ≡ 0 }
+{
+    s.iter().position(|b| *b == 0).unwrap_or(s.len())
 }

@@ -1,17 +1,17 @@
 // What a flow is. The one table of a set of flows is mathematics: see specs/ and proofs/.
-#![tactic(auto)]
+#![tactic(auto, using(crate::proofs::Deciding::deciding), unfolding(crate::specs::Flow::flow_numbers))]
 
 ghost use Rattle.std.specs.Prelude.{◌≡◌};
-ghost use Rattle.flows.specs.Flow.{is_flow};
+ghost use Rattle.flows.specs.Flow.{flow_numbers, is_flow};
 ghost use Rattle.flows.specs.Numbers.{direction_number, opener_number, point_of, sides_of};
 
-#[derive(Clone, Copy)]
+#[derive(Clone, Copy, Debug, PartialEq, Eq)]
 pub enum Direction {
     FromDevice,
     ToDevice,
 }
 
-#[derive(Clone, Copy)]
+#[derive(Clone, Copy, Debug, PartialEq, Eq)]
 pub enum Opener {
     Device,
     Remote,
@@ -47,21 +47,25 @@ pub struct Numbers {
     pub device: DevicePort,
 }
 
-pub fn direction_number(d: Direction) -> u8
-    ensures { result ≡ direction_number d }
-{
-    match d {
-        Direction::FromDevice => 0,
-        Direction::ToDevice => 1,
+impl From<Direction> for u8 {
+    ghost from_gives = { λ d n. n ≡ direction_number d };
+
+    fn from(d: Direction) -> u8 {
+        match d {
+            Direction::FromDevice => 0,
+            Direction::ToDevice => 1,
+        }
     }
 }
 
-pub fn opener_number(o: Opener) -> u8
-    ensures { result ≡ opener_number o }
-{
-    match o {
-        Opener::Device => 0,
-        Opener::Remote => 1,
+impl From<Opener> for u8 {
+    ghost from_gives = { λ o n. n ≡ opener_number o };
+
+    fn from(o: Opener) -> u8 {
+        match o {
+            Opener::Device => 0,
+            Opener::Remote => 1,
+        }
     }
 }
 
@@ -83,31 +87,13 @@ pub fn sides_of(d: Direction, source: u16, destination: u16) -> Sides
 
 // Whether ports and opener suit the protocol.
 fn suits(n: Numbers) -> bool
-    ensures { result ≡ Rattle.flows.specs.Flow.flow_numbers n.protocol.0 n.opener n.remote.0 n.device.0 }
+    ensures { result ≡ flow_numbers n.protocol.0 n.opener n.remote.0 n.device.0 }
 {
-    if n.protocol.0 == 6 {
-        return true;
-    }
-    if n.opener != 0 {
-        return false;
-    }
-    if n.protocol.0 == 17 {
-        return true;
-    }
-    if n.remote.0 != 0 {
-        return false;
-    }
-    n.device.0 == 0
+    n.protocol.0 == 6 || n.opener == 0 && (n.protocol.0 == 17 || n.remote.0 == 0 && n.device.0 == 0)
 }
 
 pub fn is_flow(n: Numbers) -> bool
     ensures { result ≡ is_flow (point_of n) }
 {
-    if n.direction > 1 {
-        return false;
-    }
-    if n.opener > 1 {
-        return false;
-    }
-    suits(n)
+    n.direction <= 1 && n.opener <= 1 && suits(n)
 }

@@ -1,4 +1,7 @@
 -- Between the rows of the numbers and what a file must keep. Assumes nothing.
+use Rattle.jsontext.specs.declared.Bad.{Bad}
+use Rattle.std.specs.Prelude.{Err, Ok, Result, is_ok}
+use Rattle.gateway.specs.declared.Reason.{Reason}
 use Prim.Native.Nat.{ℕ, ◌≤◌, ◌<◌}
 use mathlib.Core.Path.{◌≡◌, refl, sym}
 use mathlib.Core.Bool.{true, false, ◌&&◌}
@@ -10,19 +13,15 @@ use borrow.Author.Tests.{ltb-false, eqb-true, not-false, lt-ltb, le-ltb, eq-eqb}
 use Rattle.text.proofs.Tests.{by_test, clash, and_left, split}
 use Rattle.flows.specs.Table.{Point, Table, within}
 use Rattle.flows.specs.Flow.{widths, is_flow}
-use Rattle.jsontext.specs.declared.Read.{Read}
-use Rattle.jsontext.specs.declared.Read.TheVariants.{End, Bad}
 use Rattle.jsontext.specs.Reading.{text_of}
 use Rattle.jsontext.specs.Rfc8259.{Text}
 use Rattle.jsontext.proofs.Sound as sound-reader
 use Rattle.jsontext.proofs.Place.{decides}
-use Rattle.values.specs.Decode.{ended}
 use Rattle.values.specs.Tree.{tree_of}
 use Rattle.site.specs.Site.{judged, stop}
 use Rattle.rules.specs.Read.{entries_read}
 use Rattle.rules.specs.Meaning.{lets}
 use Rattle.gateway.specs.declared.Reason.TheVariants.{TooManyLines}
-use Rattle.gateway.specs.declared.Answer.TheVariants.{Taken, Refused}
 use Rattle.gateway.specs.Answer.{table_for, by_length, by_entries, by_rules, by_file, sized, answer_of}
 use Rattle.gateway.specs.Order.{tree_rows, conditions}
 use Rattle.gateway.specs.Promise.{Keeps}
@@ -43,15 +42,15 @@ inside file site p =
     (λ e. rw e (by_test (within widths p) (λ w. rw w) (λ w. rw w)))
 
 -- the reader comes to the end of a text exactly where it is JSON by the grammar
-pub json_text : (file : List ℕ) (r : Read) → r ≡ text_of 16 file → ended r ≡ true → Text 16 file
-json_text file (End e) q h = sound-reader.sound 16 file e (sym q)
-json_text file (Bad p) q h = clash h refl
+pub json_text : (file : List ℕ) (r : Result ℕ Bad) → r ≡ text_of 16 file → is_ok r ≡ true → Text 16 file
+json_text file (Ok e) q h = sound-reader.sound 16 file e (sym q)
+json_text file (Err p) q h = clash h refl
 
-pub few_lines : (t : Table) → length t ≤ 512 → by_length t ≡ Taken (length t)
+pub few_lines : (t : Table) → length t ≤ 512 → by_length t ≡ Ok (length t)
 unfolding by_length
 few_lines t h = rw (le-ltb 512 (length t) h)
 
-pub many_lines : (t : Table) → 512 < length t → by_length t ≡ Refused TooManyLines
+pub many_lines : (t : Table) → 512 < length t → by_length t ≡ Err TooManyLines
 unfolding by_length
 many_lines t h = rw (lt-ltb 512 (length t) h)
 

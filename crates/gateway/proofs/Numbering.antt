@@ -1,4 +1,6 @@
 -- The answer's number is the lowest row that holds. Assumes nothing.
+use Rattle.jsontext.specs.declared.Bad.{Bad}
+use Rattle.std.specs.Prelude.{Err, Ok, Result, ⊤, is_ok}
 use Prim.Native.Nat.{ℕ, zero, suc, ◌+◌, ◌<◌}
 use mathlib.Core.Path.{◌≡◌, refl, ◌∙◌}
 use mathlib.Core.Bool.{Bool, true, false, cond, not, ◌||◌}
@@ -7,48 +9,40 @@ use mathlib.Core.Logic.{◌↔◌}
 use native.Mathlib.Omega.{arith}
 use lib.Dec.{eqb, ltb}
 use lib.ListN.{length, get_or}
-use Rattle.jsontext.specs.declared.Read.{Read}
-use Rattle.jsontext.specs.declared.Read.TheVariants.{End, Bad}
 use Rattle.jsontext.specs.Reading.{text_of}
-use Rattle.values.specs.declared.Verdict.{Verdict}
-use Rattle.values.specs.declared.Verdict.TheVariants.{Clean, Unclean, Broken}
-use Rattle.values.specs.Decode.{ended}
 use Rattle.values.specs.Tree.{tree_of}
 use Rattle.values.specs.Clean.{clean, verdict_of}
 use Rattle.site.specs.Site.{judged, line_feeds, stop}
-use Rattle.site.specs.declared.table.Judged.{Judged}
-use Rattle.site.specs.declared.table.Judged.TheVariants.{Sound, TooLong, MalformedAt}
+use Rattle.site.specs.declared.table.Fault.TheVariants.{TooLong, MalformedAt}
 use Rattle.header.specs.Header.{outermost_ok}
 use Rattle.lists.specs.Lists.{policies_ok}
 use Rattle.rules.specs.Read.{all_known, all_sound, entries_read}
 use Rattle.text.proofs.Tests.{clash}
 use Rattle.gateway.specs.declared.Reason.{Reason}
 use Rattle.gateway.specs.declared.Reason.TheVariants.{Buffers, SiteTooLong, SiteMalformed, FileTooLong, NotJson, NamesOrSurrogates, Header, Lists, UnknownMember, BadEntry, TooManyEntries, TooManyLines}
-use Rattle.gateway.specs.declared.Answer.{Answer}
-use Rattle.gateway.specs.declared.Answer.TheVariants.{Taken, Refused}
-use Rattle.gateway.specs.Answer.{answer_number, table_for, by_length, by_entries, by_rules, by_json, by_site, by_file, sized, answer_of}
+use Rattle.gateway.specs.Answer.{answer_number, table_for, by_length, by_entries, by_rules, file_reason, site_reason, then_after, by_file, sized, answer_of}
 use Rattle.gateway.specs.Order.{tree_rows, conditions, lowest}
 
 -- ## each stage
-site_number : (a b : Bool) (p : ℕ) (x : Answer) → answer_number (by_site (cond a TooLong (cond b Sound (MalformedAt p))) x) ≡ cond a 2 (cond (not b) 3 (answer_number x))
+site_number : (a b : Bool) (p : ℕ) (x : Result ℕ Reason) → answer_number (then_after site_reason (cond a (Err TooLong) (cond b (Ok tt) (Err (MalformedAt p)))) x) ≡ cond a 2 (cond (not b) 3 (answer_number x))
 site_number true b p x = refl
 site_number false true p x = refl
 site_number false false p x = refl
 
-json_number : (r : Read) (c : Bool) (x : Answer) → answer_number (by_json (verdict_of r c) x) ≡ cond (not (ended r)) 5 (cond (not c) 6 (answer_number x))
-json_number (Bad p) c x = refl
-json_number (End e) true x = refl
-json_number (End e) false x = refl
+json_number : (r : Result ℕ Bad) (c : Bool) (x : Result ℕ Reason) → answer_number (then_after file_reason (verdict_of r c) x) ≡ cond (not (is_ok r)) 5 (cond (not c) 6 (answer_number x))
+json_number (Err p) c x = refl
+json_number (Ok e) true x = refl
+json_number (Ok e) false x = refl
 
-refuse : (b : Bool) (r : Reason) (x : Answer) → answer_number (cond b (Refused r) x) ≡ cond b (answer_number (Refused r)) (answer_number x)
+refuse : (b : Bool) (r : Reason) (x : Result ℕ Reason) → answer_number (cond b (Err r) x) ≡ cond b (answer_number (Err r)) (answer_number x)
 refuse true r x = refl
 refuse false r x = refl
 
-accept : (b : Bool) (r : Reason) (x : Answer) → answer_number (cond b x (Refused r)) ≡ cond (not b) (answer_number (Refused r)) (answer_number x)
+accept : (b : Bool) (r : Reason) (x : Result ℕ Reason) → answer_number (cond b x (Err r)) ≡ cond (not b) (answer_number (Err r)) (answer_number x)
 accept true r x = refl
 accept false r x = refl
 
-taken_number : (b : Bool) (r : Reason) (n : ℕ) → answer_number (cond b (Refused r) (Taken n)) ≡ cond b (answer_number (Refused r)) 0
+taken_number : (b : Bool) (r : Reason) (n : ℕ) → answer_number (cond b (Err r) (Ok n)) ≡ cond b (answer_number (Err r)) 0
 taken_number true r n = refl
 taken_number false r n = refl
 
@@ -109,39 +103,33 @@ lowest_iff i (false ∷ bs) (suc k) =
 
 -- ## the count
 -- an answer is taken with so many lines, or refused
-pub data Counts (n : ℕ) : Answer → Type 0 where
-  counted : Counts n (Taken n)
-  refused : (r : Reason) → Counts n (Refused r)
+pub data Counts (n : ℕ) : Result ℕ Reason → Type 0 where
+  counted : Counts n (Ok n)
+  refused : (r : Reason) → Counts n (Err r)
 
-counts_refuse : {n : ℕ} (b : Bool) (r : Reason) {x : Answer} → Counts n x → Counts n (cond b (Refused r) x)
+counts_refuse : {n : ℕ} (b : Bool) (r : Reason) {x : Result ℕ Reason} → Counts n x → Counts n (cond b (Err r) x)
 counts_refuse true r c = refused r
 counts_refuse false r c = c
 
-counts_accept : {n : ℕ} (b : Bool) (r : Reason) {x : Answer} → Counts n x → Counts n (cond b x (Refused r))
+counts_accept : {n : ℕ} (b : Bool) (r : Reason) {x : Result ℕ Reason} → Counts n x → Counts n (cond b x (Err r))
 counts_accept true r c = c
 counts_accept false r c = refused r
 
-counts_site : {n : ℕ} (j : Judged) {x : Answer} → Counts n x → Counts n (by_site j x)
-counts_site Sound c = c
-counts_site TooLong c = refused SiteTooLong
-counts_site (MalformedAt p) c = refused SiteMalformed
-
-counts_json : {n : ℕ} (v : Verdict) {x : Answer} → Counts n x → Counts n (by_json v x)
-counts_json Clean c = c
-counts_json Unclean c = refused NamesOrSurrogates
-counts_json (Broken p) c = refused NotJson
+counts_after : {n : ℕ} {F : Type 0} (why : F → Reason) (r : Result ⊤ F) {x : Result ℕ Reason} → Counts n x → Counts n (then_after why r x)
+counts_after why (Ok u) c = c
+counts_after why (Err f) c = refused (why f)
 
 pub counts : (file site : List ℕ) (reply work : ℕ) → Counts (length (table_for file site)) (answer_of file site reply work)
 unfolding answer_of by_file by_rules by_entries by_length
 counts file site reply work =
     let t = tree_of 16 file in
-    counts_accept (sized reply work) Buffers (counts_site (judged site)
-    (counts_refuse (ltb 32768 (length file)) FileTooLong (counts_json (verdict_of (text_of 16 file) (clean t))
+    counts_accept (sized reply work) Buffers (counts_after site_reason (judged site)
+    (counts_refuse (ltb 32768 (length file)) FileTooLong (counts_after file_reason (verdict_of (text_of 16 file) (clean t))
     (counts_refuse (not (outermost_ok t)) Header (counts_refuse (not (policies_ok t)) Lists
     (counts_refuse (not (all_known t)) UnknownMember (counts_refuse (not (all_sound t)) BadEntry
     (counts_refuse (ltb 64 (entries_read t)) TooManyEntries (counts_refuse (ltb 512 (length (table_for file site))) TooManyLines counted)))))))))
 
 -- and then with that count
-pub taken_count : {m n : ℕ} {a : Answer} → Counts n a → a ≡ Taken m → m ≡ n
+pub taken_count : {m n : ℕ} {a : Result ℕ Reason} → Counts n a → a ≡ Ok m → m ≡ n
 taken_count counted e = cc
 taken_count (refused r) e = absurd (let z : ◌≡◌ {A = ℕ} 0 1 = cc in omega arith)

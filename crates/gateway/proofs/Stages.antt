@@ -1,30 +1,27 @@
 -- The stages of a build, one law for each way out. Assumes nothing.
+use Rattle.std.specs.Prelude.{Err, Ok, Result, ⊤}
 use Prim.Native.Nat.{ℕ, ◌+◌, ◌≤◌, ◌<◌}
-use mathlib.Core.Path.{◌≡◌, sym, ap, ap₂, ◌∙◌, subst}
+use mathlib.Core.Path.{◌≡◌, refl, sym, ap, ap₂, ◌∙◌, subst}
 use mathlib.Core.Bool.{Bool, true, false, cond, not}
 use mathlib.Core.List.{List}
 use native.Mathlib.Omega.{arith}
+use Rattle.std.specs.Prelude.{Option, Some, None}
 use lib.Dec.{eqb, ltb, leb}
 use lib.ListN.{length, replicate}
 use borrow.Author.Rules.{rules}
 use borrow.Author.Tests.{not-true, not-false, eqb-true, leb-true, leb-false, ltb-false, lt-ltb, le-ltb, eq-eqb, ne_eqb}
-use Rattle.text.proofs.Tests.{by_test, and_left, and_right}
+use Rattle.text.proofs.Tests.{by_test, clash, and_left, and_right}
 use Rattle.flows.specs.Table.{Point, Set, Table, table_of}
 use Rattle.flows.specs.Flow.{widths}
 use Rattle.flows.specs.Rules.{Rule, let_through}
 use Rattle.flows.proofs.Meaning.{same_table}
-use Rattle.builder.specs.declared.Built.{Built}
-use Rattle.builder.specs.declared.Built.TheVariants.{Lines, Over}
 use Rattle.builder.specs.Encoding.{rules_of}
 use Rattle.builder.specs.Promise as builder
+use Rattle.builder.proofs.Turns.{over_of}
 use Rattle.jsontext.specs.Reading.{text_of}
-use Rattle.values.specs.declared.Verdict.{Verdict}
-use Rattle.values.specs.declared.Verdict.TheVariants.{Clean, Unclean, Broken}
 use Rattle.values.specs.Tree.{tree_of}
 use Rattle.values.specs.Clean.{clean, verdict_of}
 use Rattle.site.specs.Site.{judged}
-use Rattle.site.specs.declared.table.Judged.{Judged}
-use Rattle.site.specs.declared.table.Judged.TheVariants.{Sound, TooLong, MalformedAt}
 use Rattle.naming.proofs.Lines.{lines_few}
 use Rattle.reading.specs.declared.Tally.{Tally}
 use Rattle.reading.specs.Read.{ReadIn}
@@ -36,62 +33,43 @@ use Rattle.rules.specs.Meaning.{lets}
 use Rattle.stored.specs.Text.{reply_of}
 use Rattle.stored.specs.Words.{Fits}
 use Rattle.reply.specs.Lines.{lines_in}
-use Rattle.reply.proofs.Built.{built_lines, built_fits}
+use Rattle.reply.proofs.Built.{built_count, built_are}
+use Rattle.std.specs.Prelude.{IsErrAnd, is_err}
+use Rattle.std.proofs.lemmas.Result.{err_from_is_err_and}
 use Rattle.gateway.specs.declared.Reason.{Reason}
 use Rattle.gateway.specs.declared.Reason.TheVariants.{SiteTooLong, SiteMalformed, FileTooLong, NotJson, NamesOrSurrogates, Buffers, TooManyEntries, TooManyLines}
-use Rattle.gateway.specs.declared.Answer.{Answer}
-use Rattle.gateway.specs.declared.Answer.TheVariants.{Taken, Refused}
-use Rattle.gateway.specs.Answer.{table_for, by_length, by_entries, by_rules, by_json, by_site, by_file, sized, answer_of, reply_after}
+use Rattle.gateway.specs.Answer.{table_for, by_length, by_entries, by_rules, file_reason, site_reason, then_after, by_file, sized, answer_of, reply_after}
 use Rattle.gateway.specs.Stages.{Answered}
 use Rattle.gateway.specs.Promise.{BuildPromise}
 
 -- a refusal says nothing of the reply
-pub refused_as : {a : Answer} {t : Table} {x : Reason} {bytes : List ℕ} → Refused x ≡ a → Answered a t (Refused x) bytes
+pub refused_as : {a : Result ℕ Reason} {t : Table} {x : Reason} {bytes : List ℕ} → Err x ≡ a → Answered a t (Err x) bytes
 refused_as e = record { answer = e; held = λ n q. absurd (let z : ◌≡◌ {A = ℕ} 0 1 = cc in omega arith) }
 
 -- the next stage's answer is this one's
-pub goes_on : {a b : Answer} {t : Table} {r : Answer} {bytes : List ℕ} → Answered a t r bytes → a ≡ b → Answered b t r bytes
+pub goes_on : {a b : Result ℕ Reason} {t : Table} {r : Result ℕ Reason} {bytes : List ℕ} → Answered a t r bytes → a ≡ b → Answered b t r bytes
 goes_on h e = record { answer = h.answer ∙ e; held = h.held }
 
 -- ## a test that refuses, or not
 module _ {a p : Bool} (e : a ≡ p) where
-  pub stops_here : a ≡ false → {r : Reason} (x : Answer) → Refused r ≡ cond (not p) (Refused r) x
+  pub stops_here : a ≡ false → {r : Reason} (x : Result ℕ Reason) → Err r ≡ cond (not p) (Err r) x
   stops_here n x = rw (← e, n)
 
-  pub passes : a ≡ true → {y x : Answer} (z : Answer) → y ≡ x → y ≡ cond (not p) z x
+  pub passes : a ≡ true → {y x : Result ℕ Reason} (z : Result ℕ Reason) → y ≡ x → y ≡ cond (not p) z x
   passes n z h = rw (← e, n) h
 
 pub ruleset judging = (rules, not-true, not-false, refused_as, goes_on, stops_here, passes)
 
 -- ## 12, or taken
-module _ {t : Table} {w : List ℕ} {r : Built} (b : builder.BuiltIn t w r) where
-  pub over_length : {bytes : List ℕ} → r ≡ Over → Answered (by_length t) t (Refused TooManyLines) bytes
-  unfolding by_length
-  over_length e =
-      by_test (leb (length t) 512)
-      (λ y. absurd (let q : r ≡ Lines (length t) = b.answer ∙ rw y in let z : ◌≡◌ {A = ℕ} 0 1 = cc in omega arith))
-      (λ y. refused_as (rw (lt-ltb 512 (length t) (leb-false (length t) 512 y))))
+pub over_length : {t : Table} {w : List ℕ} {r : Option ℕ} → builder.BuiltIn t w r → r ≡ None → {bytes : List ℕ} → Answered (by_length t) t (Err TooManyLines) bytes
+unfolding by_length
+over_length {t} {w} {r} b e = refused_as (rw (lt-ltb 512 (length t) (over_of t r b.answer e)))
 
-  pub line_count_lem : {k : ℕ} → r ≡ Lines k → (k ≡ length t) × (length t ≤ 512)
-  line_count_lem e =
-      by_test (leb (length t) 512)
-      (λ y. let q : r ≡ Lines (length t) = b.answer ∙ rw y in (cc, leb-true (length t) 512 y))
-      (λ y. absurd (let q : r ≡ Over = b.answer ∙ rw y in let z : ◌≡◌ {A = ℕ} 0 1 = cc in omega arith))
-
-  pub at_most_512 : {k : ℕ} → r ≡ Lines k → k ≤ 512
-  at_most_512 e = let q = line_count_lem e in omega arith
-
-  pub within_length : {k : ℕ} {bytes : List ℕ} → r ≡ Lines k → bytes ≡ reply_of t → Answered (by_length t) t (Taken k) bytes
-  unfolding by_length
-  within_length e h = let q = line_count_lem e in record { answer = rw (le-ltb 512 (length t) q.1, q.0); held = λ n x. h }
-
--- the lines that the builder left are the table's, and fit
-module _ (S : Set) {w : List ℕ} {r : Built} {k : ℕ} (b : builder.BuiltIn (table_of widths S) w r) (e : r ≡ Lines k) where
-  pub built_are : lines_in k w ≡ table_of widths S
-  built_are = let q = line_count_lem b e in ap (λ (n : ℕ). lines_in n w) q.0 ∙ built_lines S w (b.held q.1)
-
-  pub built_fit : Fits (lines_in k w)
-  built_fit = let q = line_count_lem b e in subst (λ (n : ℕ). Fits (lines_in n w)) (sym q.0) (built_fits S w (b.held q.1))
+pub within_length : (S : Set) {w : List ℕ} {r : Option ℕ} {k : ℕ} {bytes : List ℕ} → builder.BuiltIn (table_of widths S) w r → r ≡ Some k → bytes ≡ reply_of (lines_in k w) → Answered (by_length (table_of widths S)) (table_of widths S) (Ok k) bytes
+unfolding by_length
+within_length S b e h =
+    let q = built_count S b e in
+    record { answer = rw (le-ltb 512 (length (table_of widths S)) q.1, q.0); held = λ n x. h ∙ ap reply_of (built_are S b e) }
 
 -- ## 9 to 11: the rules in words let the file's flows through, so that their table is the file's
 module _ (file site : List ℕ) {w w' : List ℕ} {t : Tally} (h : ReadIn site (tree_of 16 file) w t w') where
@@ -104,7 +82,7 @@ module _ (file site : List ℕ) {w w' : List ℕ} {t : Tally} (h : ReadIn site (
   told_count : t.count ≡ cond (ltb (entries_read (tree_of 16 file)) 65) (entries_read (tree_of 16 file)) 65
   told_count = ap (λ (u : Tally). u.count) h.tally ∙ tally_count (tree_of 16 file)
 
-  pub told_many : 64 < t.count → (x : Answer) → Refused TooManyEntries ≡ cond (ltb 64 (entries_read (tree_of 16 file))) (Refused TooManyEntries) x
+  pub told_many : 64 < t.count → (x : Result ℕ Reason) → Err TooManyEntries ≡ cond (ltb 64 (entries_read (tree_of 16 file))) (Err TooManyEntries) x
   told_many g x =
       let n = entries_read (tree_of 16 file) in
       by_test (ltb n 65)
@@ -116,7 +94,7 @@ module _ (file site : List ℕ) {w w' : List ℕ} {t : Tally} (h : ReadIn site (
       let n = entries_read (tree_of 16 file) in
       by_test (ltb n 65) (λ e. told_count ∙ rw e) (λ e. absurd (let q : t.count ≡ 65 = told_count ∙ rw e in omega arith))
 
-  module _ (long : length w ≡ 16290) (site_sound : judged site ≡ Sound) where
+  module _ (long : length w ≡ 16290) (site_sound : judged site ≡ Ok tt) where
     told_rules : all_sound (tree_of 16 file) ≡ true → t.count ≤ 64 → (p : Point) → let_through (rules_of (t.count + 2) w') p ≡ lets (tree_of 16 file) site p
     told_rules s g p =
         let z = few_told g in
@@ -125,7 +103,7 @@ module _ (file site : List ℕ) {w w' : List ℕ} {t : Tally} (h : ReadIn site (
         ap₂ (λ (k : ℕ) (v : List ℕ). rules_of (k + 2) v) z h.words ∙ rules_held (tree_of 16 file) site w n (omega arith) in
         ap (λ (rs : List Rule). let_through rs p) q ∙ lets_rules (tree_of 16 file) site p (lines_few site site_sound) s
 
-    pub entries_pass : t.known ≡ true → t.sound ≡ true → t.count ≤ 64 → {r : Answer} {bytes : List ℕ} → Answered (by_length (table_of widths (let_through (rules_of (t.count + 2) w')))) (table_of widths (let_through (rules_of (t.count + 2) w'))) r bytes → Answered (by_entries (tree_of 16 file) (by_length (table_for file site))) (table_for file site) r bytes
+    pub entries_pass : t.known ≡ true → t.sound ≡ true → t.count ≤ 64 → {r : Result ℕ Reason} {bytes : List ℕ} → Answered (by_length (table_of widths (let_through (rules_of (t.count + 2) w')))) (table_of widths (let_through (rules_of (t.count + 2) w'))) r bytes → Answered (by_entries (tree_of 16 file) (by_length (table_for file site))) (table_for file site) r bytes
     unfolding by_entries table_for
     entries_pass x y z a =
         let k : all_known (tree_of 16 file) ≡ true = sym told_known ∙ x in
@@ -134,37 +112,31 @@ module _ (file site : List ℕ) {w w' : List ℕ} {t : Tally} (h : ReadIn site (
         let q : table_of widths (let_through (rules_of (t.count + 2) w')) ≡ table_of widths (lets (tree_of 16 file) site) = same_table widths _ _ (λ p i. told_rules s z p) in
         goes_on (rw q at a) (rw (k, s, le-ltb 64 (entries_read (tree_of 16 file)) n))
 
+-- ## what is judged refuses, or not
+module _ {F : Type 0} (why : F → Reason) {r p : Result ⊤ F} (e : r ≡ p) (x : Result ℕ Reason) where
+  -- the exit of a `?`: the fault is told by its reason
+  pub judged_refuses : (t : Table) {f : F} → r ≡ Err f → {b : Result ℕ Reason} {bytes : List ℕ} → IsErrAnd b (λ y. y ≡ why f) → Answered (then_after why p x) t b bytes
+  judged_refuses t {f} q {b} h =
+      let g = err_from_is_err_and b h in
+      let u : then_after why p x ≡ Err (why f) = ap (λ v. then_after why v x) (sym e ∙ q) in
+      record { answer = g.1 ∙ (ap Err g.2 ∙ sym u); held = λ n z. absurd (let w : ◌≡◌ {A = Result ℕ Reason} (Err g.0) (Ok n) = sym g.1 ∙ z in let v : ◌≡◌ {A = ℕ} 0 1 = cc in omega arith) }
+
+  pub judged_passes : {u : ⊤} → r ≡ Ok u → then_after why p x ≡ x
+  judged_passes q = ap (λ v. then_after why v x) (sym e ∙ q)
+
 -- ## 4 to 6
 module _ (file site : List ℕ) where
-  pub file_long : 32768 < length file → Refused FileTooLong ≡ by_file file site
+  pub file_long : 32768 < length file → Err FileTooLong ≡ by_file file site
   unfolding by_file
   file_long h = rw (lt-ltb 32768 (length file) h)
 
-  module _ (h : length file ≤ 32768) {v : Verdict} (f : v ≡ verdict_of (text_of 16 file) (clean (tree_of 16 file))) where
-    judged_json : by_json v (by_rules (tree_of 16 file) (by_length (table_for file site))) ≡ by_file file site
-    unfolding by_file
-    judged_json = rw (le-ltb 32768 (length file) h, f)
-
-    pub no_json : {p : ℕ} → v ≡ Broken p → Refused NotJson ≡ by_file file site
-    no_json g = ap (λ u. by_json u (by_rules (tree_of 16 file) (by_length (table_for file site)))) (sym g) ∙ judged_json
-
-    pub not_clean : v ≡ Unclean → Refused NamesOrSurrogates ≡ by_file file site
-    not_clean g = ap (λ u. by_json u (by_rules (tree_of 16 file) (by_length (table_for file site)))) (sym g) ∙ judged_json
-
-    pub is_clean : v ≡ Clean → by_rules (tree_of 16 file) (by_length (table_for file site)) ≡ by_file file site
-    is_clean g = ap (λ u. by_json u (by_rules (tree_of 16 file) (by_length (table_for file site)))) (sym g) ∙ judged_json
+  pub file_judged : length file ≤ 32768 → by_file file site ≡ then_after file_reason (verdict_of (text_of 16 file) (clean (tree_of 16 file))) (by_rules (tree_of 16 file) (by_length (table_for file site)))
+  unfolding by_file
+  file_judged h = rw (le-ltb 32768 (length file) h)
 
 -- ## 1 to 3
-pub first_size : (reply work : ℕ) → reply ≡ 36864 → eqb work 16290 ≡ sized reply work
-unfolding sized
-first_size reply work e = rw (eq-eqb reply 36864 e)
-
-pub no_size : (reply work : ℕ) → (reply ≡ 36864 → ⊥) → false ≡ sized reply work
-unfolding sized
-no_size reply work n = rw (ne_eqb reply 36864 n)
-
 module _ (reply work : ℕ) {b : Bool} (e : b ≡ sized reply work) where
-  pub wrong_sizes : (file site : List ℕ) → b ≡ false → Refused Buffers ≡ answer_of file site reply work
+  pub wrong_sizes : (file site : List ℕ) → b ≡ false → Err Buffers ≡ answer_of file site reply work
   unfolding answer_of
   wrong_sizes file site n = rw (← e, n)
 
@@ -177,33 +149,27 @@ module _ (reply work : ℕ) {b : Bool} (e : b ≡ sized reply work) where
     unfolding sized
     work_fits = eqb-true work 16290 (and_right (eqb reply 36864) _ (sym e ∙ n))
 
-    module _ (file site : List ℕ) {j : Judged} (f : j ≡ judged site) where
-      judged_site : by_site j (by_file file site) ≡ answer_of file site reply work
-      unfolding answer_of
-      judged_site = rw (← e, n, f)
-
-      pub site_long : j ≡ TooLong → Refused SiteTooLong ≡ answer_of file site reply work
-      site_long g = ap (λ u. by_site u (by_file file site)) (sym g) ∙ judged_site
-
-      pub site_malformed : {p : ℕ} → j ≡ MalformedAt p → Refused SiteMalformed ≡ answer_of file site reply work
-      site_malformed g = ap (λ u. by_site u (by_file file site)) (sym g) ∙ judged_site
-
-      pub site_sound : j ≡ Sound → by_file file site ≡ answer_of file site reply work
-      site_sound g = ap (λ u. by_site u (by_file file site)) (sym g) ∙ judged_site
+    pub site_judged : (file site : List ℕ) → answer_of file site reply work ≡ then_after site_reason (judged site) (by_file file site)
+    unfolding answer_of
+    site_judged file site = rw (← e, n)
 
 -- ## the buffers at the end
-module _ {file site : List ℕ} {reply work : ℕ} {r : Answer} {bytes : List ℕ} (h : Answered (answer_of file site reply work) (table_for file site) r bytes) where
-  pub ends_taken : {n : ℕ} {words : List ℕ} → r ≡ Taken n → words ≡ replicate work 0 → BuildPromise file site reply work (Taken n) bytes words
+module _ {file site : List ℕ} {reply work : ℕ} {r : Result ℕ Reason} {bytes : List ℕ} (h : Answered (answer_of file site reply work) (table_for file site) r bytes) {words : List ℕ} (w : words ≡ replicate work 0) where
+  pub ends_taken : is_err r ≡ false → BuildPromise file site reply work r bytes words
   unfolding reply_after
-  ends_taken e w =
-      let q : answer_of file site reply work ≡ Taken _ = sym h.answer ∙ e in
-      record { answer = sym q; bytes = h.held _ e ∙ rw q; words = w }
+  ends_taken n = go r refl
+    where
+      go : (a : Result ℕ Reason) → r ≡ a → BuildPromise file site reply work r bytes words
+      go (Ok k) q = record { answer = h.answer; bytes = h.held k q ∙ rw (← h.answer, q); words = w }
+      go (Err x) q = clash {b = is_err r} (ap is_err q) n
 
-  pub ends_refused : {x : Reason} {bytes' words : List ℕ} → r ≡ Refused x → bytes' ≡ replicate reply 0 → words ≡ replicate work 0 → BuildPromise file site reply work (Refused x) bytes' words
+  pub ends_refused : is_err r ≡ true → {bytes' : List ℕ} → bytes' ≡ replicate reply 0 → BuildPromise file site reply work r bytes' words
   unfolding reply_after
-  ends_refused e b w =
-      let q : answer_of file site reply work ≡ Refused _ = sym h.answer ∙ e in
-      record { answer = sym q; bytes = b ∙ rw q; words = w }
+  ends_refused n {bytes'} b = go r refl
+    where
+      go : (a : Result ℕ Reason) → r ≡ a → BuildPromise file site reply work r bytes' words
+      go (Ok k) q = clash {b = is_err r} n (ap is_err q)
+      go (Err x) q = record { answer = h.answer; bytes = b ∙ rw (← h.answer, q); words = w }
 
 -- zeros in a buffer as long as it was lent
 pub cleared : {m : List ℕ} {k n : ℕ} → m ≡ replicate k 0 → k ≡ n → m ≡ replicate n 0

@@ -1,7 +1,6 @@
 -- DOCUMENT 01'S TABLE OF NUMBERS, row by row: the condition of each, by itself and without a word of the others.
-use Rattle.std.specs.Prelude.{ℕ, suc, Bool, cond, not, ◌||◌, List, [], ◌∷◌, eqb, ltb, length}
+use Rattle.std.specs.Prelude.{ℕ, suc, Bool, cond, not, ◌||◌, List, [], ◌∷◌, eqb, ltb, length, is_ok}
 use Rattle.jsontext.specs.Reading.{text_of}
-use Rattle.values.specs.Decode.{ended}
 use Rattle.values.specs.Tree.{Json, tree_of}
 use Rattle.values.specs.Clean.{clean}
 use Rattle.site.specs.Site.{line_feeds, stop}
@@ -27,7 +26,7 @@ conditions file site reply work =
     ∷ ((ltb 8192 (length site) || ltb 64 (line_feeds site))
     ∷ (not (eqb (stop site 0) (length site))
     ∷ (ltb 32768 (length file)
-    ∷ (not (ended (text_of 16 file)) ∷ tree_rows (tree_of 16 file) (ltb 512 (length (table_for file site)) ∷ [])))))
+    ∷ (not (is_ok (text_of 16 file)) ∷ tree_rows (tree_of 16 file) (ltb 512 (length (table_for file site)) ∷ [])))))
 
 -- "The lowest number that holds is given": the rows from number k on; 0 where none holds
 unfoldable pub lowest : ℕ → List Bool → ℕ

@@ -1,11 +1,11 @@
 -- What a stage of a build answers. (Cited by inner functions only.)
+use Rattle.std.specs.Prelude.{Err, Ok, Result}
+use Rattle.gateway.specs.declared.Reason.{Reason}
 use Rattle.std.specs.Prelude.{ℕ, ◌≡◌, List}
 use Rattle.flows.specs.Table.{Table}
 use Rattle.stored.specs.Text.{reply_of}
-use Rattle.gateway.specs.declared.Answer.{Answer}
-use Rattle.gateway.specs.declared.Answer.TheVariants.{Taken}
 
 -- r is the answer a; where that is taken, the reply holds the table t. Of a refused build's reply nothing is said: it is cleared at the end.
-pub record Answered (a : Answer) (t : Table) (r : Answer) (reply' : List ℕ) : Type 0 where
+pub record Answered (a : Result ℕ Reason) (t : Table) (r : Result ℕ Reason) (reply' : List ℕ) : Type 0 where
   pub answer : r ≡ a
-  pub held : (n : ℕ) → r ≡ Taken n → reply' ≡ reply_of t
+  pub held : (n : ℕ) → r ≡ Ok n → reply' ≡ reply_of t

@@ -8,27 +8,16 @@
 
 ghost use Rattle.std.specs.Prelude.{◌≡◌, ◌≢◌, ◌↔◌, ℕ, ◌<◌, ◌≤◌, EachIndex, IfOk, IsTrue, length, slice_index};
 
-use files::read_full;
-use gateway::Answer;
+use files::{first_zero, read_full};
+use gateway::Reason;
 use std::fs::File;
 use std::io;
 use std::io::{BufReader, BufWriter, Read, Write};
 
-fn wide(b: u8) -> usize
-    ensures { result ≤ 255 }
-{
-    b as usize
-}
-
 fn size_at(head: &[u8; 24], at: usize) -> usize
     requires { at ≤ 22 }
 {
-    wide(head[at]) * 256 + wide(head[at + 1])
-}
-
-// A word of eight times that byte.
-fn filled(b: u8) -> u64 {
-    wide(b) as u64 * 72340172838076673
+    u16::from_be_bytes([head[at], head[at + 1]]).into()
 }
 
 // Reads the bytes from a place to below another, where the buffer has them.
@@ -85,17 +74,8 @@ fn put_name(cases: &mut impl Read, out: &mut impl Write, n: usize) -> io::Result
     out.write_all(&name[..k])
 }
 
-fn put_answer(out: &mut impl Write, n: usize, count: usize) -> io::Result<()> {
-    writeln!(out, "\t{n}\t{count}")
-}
-
-// How many bytes stand before the first 0.
-fn first_zero(s: &[u8]) -> usize
-    ensures within { result ≤ length s.now }
-    ensures before { (k : ℕ) → k < result → slice_index s.now k ≢ 0 }
-    ensures found { result < length s.now → slice_index s.now result ≡ 0 }
-{
-    s.iter().position(|b| *b == 0).unwrap_or(s.len())
+fn put_answer(out: &mut impl Write, number: u8, count: usize) -> io::Result<()> {
+    writeln!(out, "\t{number}\t{count}")
 }
 
 fn zero_from(s: &[u8], at: usize) -> bool
@@ -123,14 +103,19 @@ fn put_reply(out: &mut impl Write, lines: usize, reply: &[u8], work: &[u64]) -> 
     Ok(())
 }
 
-fn put_built(out: &mut impl Write, r: Answer, reply: &[u8], work: &[u64]) -> io::Result<()> {
-    match r {
-        Answer::Taken(count) => {
+fn put_built(
+    out: &mut impl Write,
+    built: Result<usize, Reason>,
+    reply: &[u8],
+    work: &[u64],
+) -> io::Result<()> {
+    match built {
+        Ok(count) => {
             put_answer(out, 0, count)?;
             put_reply(out, first_zero(reply), reply, work)
         }
-        Answer::Refused(why) => {
-            put_answer(out, wide(gateway::reason_number(why)), 0)?;
+        Err(why) => {
+            put_answer(out, why.into(), 0)?;
             put_reply(out, 0, reply, work)
         }
     }
@@ -144,8 +129,8 @@ fn build_in(
     reply: &mut [u8],
     work: &mut [u64],
 ) -> io::Result<()> {
-    let r = gateway::build(file, site, reply, work);
-    put_built(out, r, reply, work)
+    let built = gateway::build(file, site, reply, work);
+    put_built(out, built, reply, work)
 }
 
 // One build in buffers of these lengths, filled with that byte.
@@ -158,7 +143,7 @@ fn build_with(
     noise: u8,
 ) -> io::Result<()> {
     let mut reply = [noise; 36865];
-    let mut work = [filled(noise); 16291];
+    let mut work = [u64::from_be_bytes([noise; 8]); 16291];
     if 36865 < m || 16291 < n {
         return Ok(());
     }

@@ -1,10 +1,9 @@
 -- What the rules ask of the value of a member (document 01, 'The MUD rules').
-use Rattle.std.specs.Prelude.{ℕ, List, [], ◌∷◌, Bool, false, ◌&&◌, ◌||◌, cond, length, eqb}
+use Rattle.std.specs.Prelude.{ℕ, List, [], ◌∷◌, Bool, false, ◌&&◌, ◌||◌, cond, length, eqb, Option, None, Some}
 use Rattle.text.specs.Ascii.{ascii}
 use Rattle.text.specs.Words.{same_bytes}
 use Rattle.text.specs.Networks.{network_at}
-use Rattle.text.specs.declared.networks.Block.{Block}
-use Rattle.text.specs.declared.networks.Block.TheVariants.{Net, NoNet}
+use Rattle.text.specs.declared.networks.Net.{Net}
 use Rattle.site.specs.Url.{is_mud_url}
 use Rattle.values.specs.Tree.{Json, Elements, no_more, element, items, is_null, is_string, is_bool, count_of}
 use Rattle.values.specs.Rules.{within, text}
@@ -28,16 +27,16 @@ abbrev pub is_null_array : Json → Bool
 is_null_array j = one_null (items j)
 
 -- a network with its length ("here `/n` is required"), and nothing after it
-abbrev pub whole_net : List ℕ → Block → Bool
-whole_net b NoNet = false
-whole_net b (Net low high given after) = given && eqb after (length b)
+abbrev pub whole_net : List ℕ → Option (Net × ℕ) → Bool
+whole_net b None = false
+whole_net b (Some (net, after)) = net.given && eqb after (length b)
 
 unfoldable pub is_network : List ℕ → Bool
 is_network b = whole_net b (network_at b 0)
 
 -- that network, if it is one
-unfoldable pub net_in : List ℕ → Block
-net_in b = cond (is_network b) (network_at b 0) NoNet
+unfoldable pub net_in : List ℕ → Option (Net × ℕ)
+net_in b = cond (is_network b) (network_at b 0) None
 
 -- "`accept`, `drop` or `reject`"; "`operator` `eq`, `neq`, `lte`, `gte`"; "`from-device` (opener 0) or `to-device` (opener 1)"
 abbrev pub forwardings : List (List ℕ)

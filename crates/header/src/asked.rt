@@ -1,4 +1,6 @@
 // What a member's value may be asked to be.
+#![tactic(auto, using(crate::proofs::Laws::asking))]
+
 ghost use Rattle.std.specs.Prelude.{◌≡◌};
 ghost use Rattle.values.specs.Decode.{bytes_at};
 ghost use Rattle.values.specs.Tree.{tree_at, lookup, seen};
@@ -9,9 +11,8 @@ use super::strings;
 use jsontext::Next;
 use jsontext::space::skip;
 use text::bytes::byte_at;
-use text::networks::Block;
+use values::plain;
 use values::walk::{first_item, inner, member, next_element};
-use values::{Found, plain};
 
 // The form of a string.
 #[derive(Clone, Copy)]
@@ -23,6 +24,7 @@ pub enum Form {
     Initiator,
 }
 
+// A value and not a closure: the rules of specs/ name what is asked for, and callers prove by that name.
 #[derive(Clone, Copy)]
 pub enum Asked {
     Text,
@@ -36,10 +38,7 @@ pub enum Asked {
 fn is_network(s: &[u8], at: usize) -> bool
     ensures { result ≡ is_network (bytes_at s.now at) }
 {
-    match strings::network(s, at) {
-        Block::NoNet => false,
-        Block::Net(_, _, _, _) => true,
-    }
+    strings::network(s, at).is_some()
 }
 
 // Whether the string whose first character stands at a place has a form.
@@ -58,27 +57,17 @@ fn is_spelt(s: &[u8], at: usize, form: Form) -> bool
 fn is_text(s: &[u8], at: usize, depth: usize, form: Form) -> bool
     ensures { result ≡ text (spelt form) (tree_at depth s.now at) }
 {
-    if byte_at(s, at) != b'"' {
-        return false;
-    }
-    is_spelt(s, at + 1, form)
+    byte_at(s, at) == b'"' && is_spelt(s, at + 1, form)
 }
 
 fn is_null_array(s: &[u8], at: usize, depth: usize) -> bool
     ensures { result ≡ is_null_array (tree_at depth s.now at) }
 {
-    let Found::At(j) = first_item(s, at, depth) else {
+    let Some(j) = first_item(s, at, depth) else {
         return false;
     };
     let d = inner(depth);
-    if !plain::is_null(s, skip(s, j), d) {
-        return false;
-    }
-    match next_element(s, j, d) {
-        Next::Done(_) => true,
-        Next::Wrong(_) => true,
-        Next::More(_) => false,
-    }
+    plain::is_null(s, skip(s, j), d) && !matches!(next_element(s, j, d), Ok(Next::More(_)))
 }
 
 // Whether the value at a place is what is asked for.
@@ -96,23 +85,17 @@ pub fn obeys(s: &[u8], at: usize, depth: usize, asked: Asked) -> bool
 }
 
 // Whether something was found that is what is asked for.
-pub fn must_obey(s: &[u8], found: Found, depth: usize, asked: Asked) -> bool
+pub fn must_obey(s: &[u8], found: Option<usize>, depth: usize, asked: Asked) -> bool
     ensures { result ≡ must (seen (tree_at depth s.now) found) (obeys asked) }
 {
-    match found {
-        Found::Missing => false,
-        Found::At(p) => obeys(s, p, depth, asked),
-    }
+    found.is_some_and(|p| obeys(s, p, depth, asked))
 }
 
 // The same where nothing may have been found.
-pub fn may_obey(s: &[u8], found: Found, depth: usize, asked: Asked) -> bool
+pub fn may_obey(s: &[u8], found: Option<usize>, depth: usize, asked: Asked) -> bool
     ensures { result ≡ may (seen (tree_at depth s.now) found) (obeys asked) }
 {
-    match found {
-        Found::Missing => true,
-        Found::At(p) => obeys(s, p, depth, asked),
-    }
+    found.is_none_or(|p| obeys(s, p, depth, asked))
 }
 
 // Whether the object at a place has a member of that name, which is what is asked for.

@@ -1,17 +1,18 @@
 // Runs the reader over the published files that `list` names, and writes a line for each: the name and the answer.
 #![tactic(auto)]
 
-ghost use Rattle.std.specs.Prelude.{◌≡◌, ◌≢◌, ℕ, ◌<◌, ◌≤◌, length, slice_index};
+ghost use Rattle.std.specs.Prelude.{◌≡◌};
 ghost use Rattle.jsonfiles.specs.Answers.{answer_of};
 
 use files::load;
 use std::io::{BufWriter, Write};
 use std::rt::Files;
 use std::{io, str};
-use values::Verdict;
+use values::Fault;
 use values::clean::judge;
 
 // The numbers 4 to 6 of document 01, or 0.
+#[tactic(auto, using(crate::proofs::Laws::answering))]
 fn answer(s: &[u8], area: &mut [u64]) -> u8
     ensures { result ≡ answer_of s.now }
 {
@@ -19,9 +20,9 @@ fn answer(s: &[u8], area: &mut [u64]) -> u8
         return 4;
     }
     match judge(s, 16, area) {
-        Verdict::Broken(_) => 5,
-        Verdict::Unclean => 6,
-        Verdict::Clean => 0,
+        Ok(()) => 0,
+        Err(Fault::Broken(_)) => 5,
+        Err(Fault::Unclean) => 6,
     }
 }
 
@@ -39,26 +40,9 @@ fn run_file(files: &impl Files, out: &mut impl Write, name: &[u8]) -> io::Result
     writeln!(out, "\t{number}")
 }
 
-// Where the line that begins at `at` ends.
-fn line_end(s: &[u8], at: usize) -> usize
-    requires { at ≤ length s.now }
-    ensures within { (at ≤ result) × (result ≤ length s.now) }
-    ensures before { (k : ℕ) → at ≤ k → k < result → slice_index s.now k ≢ 10 }
-    ensures found { result < length s.now → slice_index s.now result ≡ 10 }
-{
-    let mut i = at;
-    while i < s.len() && s[i] != b'\n' {
-        i += 1;
-    }
-    i
-}
-
 fn run_list(files: &impl Files, out: &mut impl Write, list: &[u8]) -> io::Result<()> {
-    let mut at = 0;
-    while at < list.len() {
-        let end = line_end(list, at);
-        run_file(files, out, &list[at..end])?;
-        at = end + 1;
+    for line in list.split_inclusive(|b| *b == b'\n') {
+        run_file(files, out, line.strip_suffix(b"\n").unwrap_or(line))?;
     }
     Ok(())
 }

@@ -12,11 +12,13 @@ use lib.Dec.{ltb}
 use borrow.Author.Tests.{eq-eqb, ne_eqb, lt-ltb, le-ltb, le-leb, lt-leb}
 use Rattle.text.proofs.Tests.{and_left, and_right, and-false}
 use Rattle.text.proofs.ByteLaws.{between_is}
-use Rattle.jsontext.specs.declared.Read.{Read}
-use Rattle.jsontext.specs.declared.Read.TheVariants.{End, Bad}
+use Rattle.jsontext.specs.declared.Bad.{Bad}
+use Rattle.std.specs.Prelude.{Result, Ok}
 use Rattle.jsontext.specs.declared.Start.{Start}
 use Rattle.text.specs.Bytes.{between, is_digit}
-use Rattle.jsontext.specs.Reading.{is, then, or_else, into, is_space, is_hex, is_escape, is_plain, span, span_at, skip_at, one_at, times_at, some_at, token_at, word_at, run, tails_at, wide_at, escape_at, char_at, quote_or_char_at, string_at, minus_at, sign_at, int_at, fraction_at, is_e, exponent_at, number_at, key_at, start_of, next_at, element_at, member_at, array_at, object_at, by_start, value_at, stop, text_of}
+use Rattle.std.specs.List.{prefix_len}
+use Rattle.std.specs.Result.{result_or}
+use Rattle.jsontext.specs.Reading.{is, refused, ◌>>=◌, is_space, is_hex, is_escape, is_plain, span_at, skip_at, one_at, times_at, some_at, token_at, word_at, run, tails_at, wide_at, escape_at, char_at, quote_or_char_at, string_at, minus_at, sign_at, int_at, fraction_at, is_e, exponent_at, number_at, key_at, start_of, next_at, element_at, member_at, array_at, object_at, by_start, value_at, stop, text_of}
 use Rattle.jsontext.specs.Rfc8259.{Language, word, Byte, Range, within, ◌·◌, pair, ◌∣◌, left, right, Star, none, more, Opt, Times, Ws, Token, Digit, HexDig, Minus, Int, Frac, Exp, Number, Tail, Wide, Escaped, Char, String, Listed, Member, Literal, Value, Text}
 use Rattle.jsontext.proofs.Sound.{Seg, here, byte, seg_length, cons_drop, wide_first, char_first}
 
@@ -38,23 +40,23 @@ pub seg_whole : (s : List ℕ) → Seg s 0 s (length s)
 seg_whole s = rw zero-add at (seg_of_drop s s 0 refl)
 
 pub span_more : (p : ℕ → Bool) (s : List ℕ) (i : ℕ) → i < length s → p (get_or s i 0) ≡ true → span_at p s i ≡ span_at p s (i + 1)
-unfolding span span_at
-span_more p s i h e = rw (drop-cons s i 0, span, e, add-one) (omega arith)
+unfolding span_at
+span_more p s i h e = rw (drop-cons s i 0, e, add-one) (omega arith)
 
 pub span_stop : (p : ℕ → Bool) (s : List ℕ) (i : ℕ) → p (get_or s i 0) ≡ false → span_at p s i ≡ i
-unfolding span span_at
+unfolding span_at
 span_stop p s i e = go (drop i s) refl
   where
-    go : (l : List ℕ) → drop i s ≡ l → i + span p l ≡ i
+    go : (l : List ℕ) → drop i s ≡ l → i + prefix_len p l ≡ i
     go [] q = add-zero i
-    go (x ∷ l) q = let r = cons_drop s i x l q in let f : p x ≡ false = rw r.1 at e in rw (span, f) (add-zero i)
+    go (x ∷ l) q = let r = cons_drop s i x l q in let f : p x ≡ false = rw r.1 at e in rw f (add-zero i)
 
 pub span_from : (p : ℕ → Bool) (s : List ℕ) (i : ℕ) → i ≤ span_at p s i
 unfolding span_at
 span_from p s i = omega arith
 
 pub span_end : (p : ℕ → Bool) (s : List ℕ) (i : ℕ) → length s ≤ i → span_at p s i ≡ i
-unfolding span span_at
+unfolding span_at
 span_end p s i h = rw (drop_of_length-le s h) (add-zero i)
 
 pub ne_is : (k b : ℕ) → (k ≡ b → ⊥) → is k b ≡ false
@@ -126,15 +128,15 @@ star_takes {p} c {s} {i = i} (more {u = u} g gs) x =
     span_more p s i r.inside r.passes ∙ (rw (← r.next) (star_takes c gs t.2))
 
 module _ {p : ℕ → Bool} {G : Language} (c : Covers p G) where
-  pub byte_takes : {s v : List ℕ} {i j : ℕ} → G v → Seg s i v j → one_at p s i ≡ End j
+  pub byte_takes : {s v : List ℕ} {i j : ℕ} → G v → Seg s i v j → one_at p s i ≡ Ok j
   unfolding one_at
   byte_takes g x = let r = c _ _ _ _ g x in rw (r.passes, r.next)
 
-  pub some_takes : {q : ℕ → Bool} {H : Language} {s v : List ℕ} {i j : ℕ} → Covers q H → (G · Star H) v → Seg s i v j → q (get_or s j 0) ≡ false → some_at p q s i ≡ End j
+  pub some_takes : {q : ℕ → Bool} {H : Language} {s v : List ℕ} {i j : ℕ} → Covers q H → (G · Star H) v → Seg s i v j → q (get_or s j 0) ≡ false → some_at p q s i ≡ Ok j
   unfolding some_at
-  some_takes {q} {s = s} {j = j} d (pair {u = u} g gs) x n = let t = seg_split u x in rw (byte_takes g t.1) (ap End (star_takes d gs t.2 ∙ span_stop q s j n))
+  some_takes {q} {s = s} {j = j} d (pair {u = u} g gs) x n = let t = seg_split u x in rw (byte_takes g t.1) (ap Ok (star_takes d gs t.2 ∙ span_stop q s j n))
 
-  pub times_takes : {s v : List ℕ} {i j : ℕ} (n : ℕ) → Times n G v → Seg s i v j → times_at p n s i ≡ End j
+  pub times_takes : {s v : List ℕ} {i j : ℕ} (n : ℕ) → Times n G v → Seg s i v j → times_at p n s i ≡ Ok j
   unfolding times_at
   times_takes zero word here = refl
   times_takes {v = w} (suc n) (pair {u = u} {v = v} g gs) x = let t = seg_split u x in rw (byte_takes g t.1, times_takes {v = v} n gs t.2)
@@ -144,17 +146,17 @@ abbrev solid : List ℕ → Bool
 solid [] = true
 solid (x ∷ w) = is x x && solid w
 
-pub word_takes : (w : List ℕ) → solid w ≡ true → {s : List ℕ} {i j : ℕ} → Seg s i w j → word_at w s i ≡ End j
+pub word_takes : (w : List ℕ) → solid w ≡ true → {s : List ℕ} {i j : ℕ} → Seg s i w j → word_at w s i ≡ Ok j
 unfolding word_at
 word_takes [] z here = refl
 word_takes (b ∷ w) z (byte h e x) = rw (byte_takes (eq_covers b (and_left _ _ z)) word (byte h e here)) (word_takes w (and_right (is b b) _ z) x)
 
 -- strings
-pub tails_takes : (lo hi n : ℕ) {s v : List ℕ} {i j : ℕ} → (Range lo hi · Times n Tail) v → Seg s i v j → tails_at lo hi n s i ≡ End j
+pub tails_takes : (lo hi n : ℕ) {s v : List ℕ} {i j : ℕ} → (Range lo hi · Times n Tail) v → Seg s i v j → tails_at lo hi n s i ≡ Ok j
 unfolding tails_at
 tails_takes lo hi n (pair {u = u} g t) x = let r = seg_split u x in rw (byte_takes (range_covers lo hi) g r.1) (times_takes (range_covers 128 191) n t r.2)
 
-pub wide_takes : {s v : List ℕ} {i j : ℕ} → Wide v → Seg s i v j → wide_at s i ≡ End j
+pub wide_takes : {s v : List ℕ} {i j : ℕ} → Wide v → Seg s i v j → wide_at s i ≡ Ok j
 unfolding wide_at between
 wide_takes (left (pair (within {b = b} l r) t)) (byte h e x) = rw (e, between_is 194 223 b l r) (tails_takes 128 191 0 t x)
 wide_takes (right (left (pair word t))) (byte h e x) = rw e (tails_takes 160 191 1 t x)
@@ -168,7 +170,7 @@ wide_takes (right (right (right (right (right (right (left (pair (within {b = b}
     rw (e, above 194 223 b (omega arith) (omega arith), ne_is 224 b (λ q. omega arith), above 225 236 b (omega arith) (omega arith), ne_is 237 b (λ q. omega arith), above 238 239 b (omega arith) (omega arith), ne_is 240 b (λ q. omega arith), between_is 241 243 b l r) (tails_takes 128 191 2 t x)
 wide_takes (right (right (right (right (right (right (right (pair word t)))))))) (byte h e x) = rw e (tails_takes 128 143 2 t x)
 
-pub escape_takes : {s v : List ℕ} {i j : ℕ} → Escaped v → Seg s i v j → escape_at s i ≡ End j
+pub escape_takes : {s v : List ℕ} {i j : ℕ} → Escaped v → Seg s i v j → escape_at s i ≡ Ok j
 unfolding escape_at is_escape
 escape_takes (left c) x = let r = escape_covers _ _ _ _ c x in rw (r.passes, r.next)
 escape_takes (right (pair word t)) (byte h e x) = rw e (times_takes hex_covers 4 t x)
@@ -177,13 +179,13 @@ pub not_plain : (b : ℕ) → 127 < b → is_plain b ≡ false
 unfolding is_plain
 not_plain b h = rw (above 32 33 b (omega arith) (omega arith), above 35 91 b (omega arith) (omega arith)) (above 93 127 b (omega arith) (omega arith))
 
-pub char_takes : {s v : List ℕ} {i j : ℕ} → Char v → Seg s i v j → char_at s i ≡ End j
+pub char_takes : {s v : List ℕ} {i j : ℕ} → Char v → Seg s i v j → char_at s i ≡ Ok j
 unfolding char_at is_plain between
 char_takes (left (left c)) x = let r = plain_covers _ _ _ _ c x in rw (r.passes, r.next)
 char_takes {s} {i = i} (left (right c)) x = let r = wide_first c x in rw (not_plain (get_or s i 0) (omega arith), ne_is 92 (get_or s i 0) (λ q. omega arith)) (wide_takes c x)
 char_takes (right (pair word t)) (byte h e x) = rw e (escape_takes t x)
 
-pub chars_take : (f : ℕ) {s v : List ℕ} {i m j : ℕ} → Star Char v → Seg s i v m → Seg s m (34 ∷ []) j → m < f + i → run (quote_or_char_at s) f i ≡ End j
+pub chars_take : (f : ℕ) {s v : List ℕ} {i m j : ℕ} → Star Char v → Seg s i v m → Seg s m (34 ∷ []) j → m < f + i → run (quote_or_char_at s) f i ≡ Ok j
 unfolding run quote_or_char_at
 chars_take zero cs x (byte h e here) l = let n = seg_length x in absurd (omega arith)
 chars_take (suc f) none here (byte h e here) l = rw e
@@ -192,7 +194,7 @@ chars_take (suc f) {s} {i = i} (more {u = u} c cs) x y l =
     let r = char_first c t.1 in
     rw (ne_is 34 (get_or s i 0) r.0, char_takes c t.1) (chars_take f cs t.2 y (omega arith))
 
-pub text_takes : {s v : List ℕ} {i j : ℕ} → (Star Char · Byte 0x22) v → Seg s i v j → string_at s i ≡ End j
+pub text_takes : {s v : List ℕ} {i j : ℕ} → (Star Char · Byte 0x22) v → Seg s i v j → string_at s i ≡ Ok j
 unfolding string_at
 text_takes {s} (pair {u = u} cs word) x = let t = seg_split u x in let h = seg_inside t.2 in chars_take (suc (length s)) cs t.1 t.2 (omega arith)
 
@@ -214,7 +216,7 @@ any_takes {s} {i = i} (left word) here h = rw (ne_is 43 (get_or s i 0) (λ q. om
 any_takes (right (left word)) (byte h e here) n = rw e
 any_takes (right (right word)) (byte h e here) n = rw e
 
-pub int_takes : {s v : List ℕ} {i j : ℕ} → Int v → Seg s i v j → is_digit (get_or s j 0) ≡ false → int_at s i ≡ End j
+pub int_takes : {s v : List ℕ} {i j : ℕ} → Int v → Seg s i v j → is_digit (get_or s j 0) ≡ false → int_at s i ≡ Ok j
 unfolding int_at
 int_takes (left word) (byte h e here) n = rw e
 int_takes {s} {i = i} (right (pair (within l r) ds)) (byte h e x) n =
@@ -227,7 +229,7 @@ int_first (right (pair (within l r) ds)) (byte h e x) = omega arith
 pub digits_first : {s v : List ℕ} {i j : ℕ} → (Digit · Star Digit) v → Seg s i v j → 45 < get_or s i 0
 digits_first (pair (within l r) ds) (byte h e x) = omega arith
 
-pub fraction_takes : {s v : List ℕ} {i j : ℕ} → Opt Frac v → Seg s i v j → is_digit (get_or s j 0) ≡ false → is 46 (get_or s j 0) ≡ false → fraction_at s i ≡ End j
+pub fraction_takes : {s v : List ℕ} {i j : ℕ} → Opt Frac v → Seg s i v j → is_digit (get_or s j 0) ≡ false → is 46 (get_or s j 0) ≡ false → fraction_at s i ≡ Ok j
 unfolding fraction_at
 fraction_takes (left word) here n d = rw d
 fraction_takes (right (pair word ds)) (byte h e x) n d = rw e (some_takes digit_covers digit_covers ds x n)
@@ -237,7 +239,7 @@ unfolding between
 fraction_first (left word) here n = n
 fraction_first (right (pair word ds)) (byte h e x) n = rw e
 
-pub exponent_takes : {s v : List ℕ} {i j : ℕ} → Opt Exp v → Seg s i v j → Ends (get_or s j 0) → exponent_at s i ≡ End j
+pub exponent_takes : {s v : List ℕ} {i j : ℕ} → Opt Exp v → Seg s i v j → Ends (get_or s j 0) → exponent_at s i ≡ Ok j
 unfolding exponent_at
 exponent_takes (left word) here n = rw n.letter
 exponent_takes {s} (right (pair {u = u} c (pair {u = w} sg ds))) x n =
@@ -252,7 +254,7 @@ exponent_first (left word) here n = (n.digit, n.dot)
 exponent_first (right (pair (left word) t)) (byte h e x) n = (rw e, rw e)
 exponent_first (right (pair (right word) t)) (byte h e x) n = (rw e, rw e)
 
-pub number_takes : {s v : List ℕ} {i j : ℕ} → Number v → Seg s i v j → Ends (get_or s j 0) → number_at s i ≡ End j
+pub number_takes : {s v : List ℕ} {i j : ℕ} → Number v → Seg s i v j → Ends (get_or s j 0) → number_at s i ≡ Ok j
 unfolding number_at
 number_takes {s} (pair {u = a} sg (pair {u = b} n (pair {u = c} f e))) x h =
     let t = seg_split a x in
@@ -309,25 +311,25 @@ pub token_ends : {b : ℕ} {s v : List ℕ} {i j : ℕ} → Token b v → Seg s 
 token_ends (pair {u = u} w (pair word w')) x n = let t = seg_split u x in ws_ends w t.1 (rw (first_byte t.2) n)
 
 -- a reader's end, up to white space
-pub record Ended (s : List ℕ) (j : ℕ) (r : Read) : Type 0 where
+pub record Ended (s : List ℕ) (j : ℕ) (r : Result ℕ Bad) : Type 0 where
   pub place : ℕ
-  pub ended : r ≡ End place
+  pub ended : r ≡ Ok place
   pub rest : skip_at s place ≡ skip_at s j
 
 -- a reader that takes a language, from wherever only white space stands before it
-abbrev pub Taken : Language → List ℕ → (ℕ → Read) → Type 0
+abbrev pub Taken : Language → List ℕ → (ℕ → Result ℕ Bad) → Type 0
 Taken G s rd = (i i' j : ℕ) (v : List ℕ) → G v → Seg s i v j → skip_at s i' ≡ skip_at s i → Ends (get_or s j 0) → Ended s j (rd i')
 
 pub comma_ends : Ends 44
 unfolding between is_e
 comma_ends = record { digit = refl; dot = refl; letter = refl }
 
-module _ {G : Language} (close : ℕ) (s : List ℕ) (rd : ℕ → Read) (tk : Taken G s rd) (ce : Ends close) (h : 44 < close) where
+module _ {G : Language} (close : ℕ) (s : List ℕ) (rd : ℕ → Result ℕ Bad) (tk : Taken G s rd) (ce : Ends close) (h : 44 < close) where
   pub list_ends : {w z : List ℕ} {j k l : ℕ} → Star (Token 0x2C · G) w → Seg s j w k → Token close z → Seg s k z l → Ends (get_or s j 0)
   list_ends none here c z = token_ends c z ce
   list_ends (more {u = u} (pair {u = t} tok g) gs) y c z = let y₁ = seg_split u y in token_ends tok (seg_split t y₁.1).1 comma_ends
 
-  pub items_take : (f i' : ℕ) {u w z : List ℕ} {i j k l : ℕ} → G u → Seg s i u j → Star (Token 0x2C · G) w → Seg s j w k → Token close z → Seg s k z l → skip_at s i' ≡ skip_at s i → k < f + j → Ended s l (run (λ n. into (rd n) (λ e. next_at close s e)) f i')
+  pub items_take : (f i' : ℕ) {u w z : List ℕ} {i j k l : ℕ} → G u → Seg s i u j → Star (Token 0x2C · G) w → Seg s j w k → Token close z → Seg s k z l → skip_at s i' ≡ skip_at s i → k < f + j → Ended s l (run (λ n. rd n >>= (λ e. next_at close s e)) f i')
   unfolding run next_at
   items_take zero i' g x gs y c z q n = let m = seg_length y in absurd (omega arith)
   items_take (suc f) i' {j = j} g x none here c z q n =
@@ -345,7 +347,7 @@ module _ {G : Language} (close : ℕ) (s : List ℕ) (rd : ℕ → Read) (tk : T
       record { place = r.place; ended = rw (a.ended, a.rest, b.there, ne_is close 44 (λ q. omega arith)) r.ended; rest = r.rest }
 
   -- the items or none, and the closing byte
-  pub list_takes : ((i j : ℕ) (v : List ℕ) → G v → Seg s i v j → Ends (get_or s j 0) → is close (get_or s (skip_at s i) 0) ≡ false) → (i' : ℕ) {v : List ℕ} {i j : ℕ} → (Opt (Listed G) · Token close) v → Seg s i v j → skip_at s i' ≡ skip_at s i → Ended s j (or_else (token_at close s i') (λ k. run (λ n. into (rd n) (λ e. next_at close s e)) (suc (length s)) i'))
+  pub list_takes : ((i j : ℕ) (v : List ℕ) → G v → Seg s i v j → Ends (get_or s j 0) → is close (get_or s (skip_at s i) 0) ≡ false) → (i' : ℕ) {v : List ℕ} {i j : ℕ} → (Opt (Listed G) · Token close) v → Seg s i v j → skip_at s i' ≡ skip_at s i → Ended s j (result_or (token_at close s i') (run (λ n. rd n >>= (λ e. next_at close s e)) (suc (length s)) i'))
   unfolding token_at one_at
   list_takes nc i' {i = i} (pair (left word) c) x q =
       let b = token_takes c x (omega arith) in
@@ -358,7 +360,7 @@ module _ {G : Language} (close : ℕ) (s : List ℕ) (rd : ℕ → Read) (tk : T
       let r = items_take (suc (length s)) i' g y₂.1 gs y₂.2 c y₁.2 q (omega arith) in
       record { place = r.place; ended = rw (q, nc _ _ _ g y₂.1 (list_ends gs y₂.2 c y₁.2)) r.ended; rest = r.rest }
 
-pub member_takes : {G : Language} (s : List ℕ) (rd : ℕ → Read) → Taken G s (λ i. rd (skip_at s i)) → Taken (Member G) s (λ i. then (key_at s i) (λ v. rd (skip_at s v)))
+pub member_takes : {G : Language} (s : List ℕ) (rd : ℕ → Result ℕ Bad) → Taken G s (λ i. rd (skip_at s i)) → Taken (Member G) s (λ i. key_at s i >>= (λ v. rd (skip_at s v)))
 unfolding key_at token_at one_at
 member_takes s rd tk i i' j v (pair {u = u} (pair word t) (pair {u = w} tok g)) x q n =
     let y₁ = seg_split u x in
@@ -367,7 +369,7 @@ member_takes s rd tk i i' j v (pair {u = u} (pair word t) (pair {u = w} tok g)) 
     let e = first_byte y₁.1 in
     let k : skip_at s i ≡ i = skip_none s i (omega arith) in
     let r = tk _ (skip_at s y₁.0 + 1) _ _ g y₂.2 b.rest n in
-    let a : key_at s i' ≡ End (skip_at s y₁.0 + 1) = rw (q, k, e, text_takes t (after_first y₁.1), b.there) in
+    let a : key_at s i' ≡ Ok (skip_at s y₁.0 + 1) = rw (q, k, e, text_takes t (after_first y₁.1), b.there) in
     record { place = r.place; ended = rw a r.ended; rest = r.rest }
 
 -- values
@@ -385,7 +387,7 @@ number_start {s} {i = i} (pair (left word) (pair {u = u} n f)) x =
     (rw (ne_is 91 b (λ q. omega arith), ne_is 123 b (λ q. omega arith), ne_is 34 b (λ q. omega arith), ne_is 116 b (λ q. omega arith), ne_is 102 b (λ q. omega arith), ne_is 110 b (λ q. omega arith), ne_is 45 b (λ q. omega arith), is_digit_lem b r.0 r.1), l)
 number_start (pair (right word) t) (byte h e x) = (rw e, omega arith)
 
-pub simple_start : {s v : List ℕ} {i j : ℕ} (arr obj : ℕ → Read) → (Literal ∣ Number ∣ String) v → Seg s i v j → Ends (get_or s j 0) → (by_start (start_of (get_or s i 0)) s i arr obj ≡ End j) × (32 < get_or s i 0)
+pub simple_start : {s v : List ℕ} {i j : ℕ} (arr obj : ℕ → Result ℕ Bad) → (Literal ∣ Number ∣ String) v → Seg s i v j → Ends (get_or s j 0) → (by_start (start_of (get_or s i 0)) s i arr obj ≡ Ok j) × (32 < get_or s i 0)
 unfolding start_of
 simple_start arr obj (left (left word)) (byte h e x) n = (rw e (word_takes _ refl (byte h e x)), omega arith)
 simple_start arr obj (left (right (left word))) (byte h e x) n = (rw e (word_takes _ refl (byte h e x)), omega arith)
@@ -393,12 +395,12 @@ simple_start arr obj (left (right (right word))) (byte h e x) n = (rw e (word_ta
 simple_start arr obj (right (left m)) x n = let r = number_start m x in (rw r.0 (number_takes m x n), r.1)
 simple_start arr obj (right (right (pair word t))) (byte h e x) n = (rw e (text_takes t x), omega arith)
 
-pub value_bad : (d : ℕ) (s : List ℕ) (k : ℕ) → 93 ≡ get_or s k 0 → value_at d s k ≡ Bad k
+pub value_bad : (d : ℕ) (s : List ℕ) (k : ℕ) → 93 ≡ get_or s k 0 → value_at d s k ≡ refused k
 unfolding value_at start_of between
 value_bad zero s k h = rw (← h)
 value_bad (suc d) s k h = rw (← h)
 
-pub value_not : (d : ℕ) (s : List ℕ) (k e : ℕ) → value_at d s k ≡ End e → is 93 (get_or s k 0) ≡ false
+pub value_not : (d : ℕ) (s : List ℕ) (k e : ℕ) → value_at d s k ≡ Ok e → is 93 (get_or s k 0) ≡ false
 value_not d s k e q = ne_is 93 (get_or s k 0) (λ h. let b = value_bad d s k h in let z : ◌≡◌ {A = ℕ} 0 1 = cc in omega arith)
 
 pub member_not : {G : Language} {s v : List ℕ} {i j : ℕ} → Member G v → Seg s i v j → is 125 (get_or s (skip_at s i) 0) ≡ false
@@ -419,12 +421,12 @@ close_ends = (record { digit = refl; dot = refl; letter = refl }, record { digit
 pub value_takes : (d : ℕ) (s : List ℕ) → Taken (Value d) s (λ i. value_at d s (skip_at s i))
 unfolding value_at array_at object_at element_at member_at
 value_takes zero s i i' j v x y q n =
-    let r = simple_start (λ j. Bad i) (λ j. Bad i) x y n in
+    let r = simple_start (λ j. refused i) (λ j. refused i) x y n in
     record { place = j; ended = rw (q, skip_none s i r.1) r.0; rest = refl }
 value_takes (suc d) s i i' j v (left (pair {u = u} tok l)) y q n =
     let y₁ = seg_split u y in
     let f = token_takes tok y₁.1 (omega arith) in
-    let r = list_takes 125 s (λ i. then (key_at s i) (λ v. value_at d s (skip_at s v))) (member_takes s (value_at d s) (value_takes d s)) close_ends.1 (omega arith) (λ i j v g x n. member_not g x) (skip_at s i + 1) l y₁.2 f.rest in
+    let r = list_takes 125 s (λ i. key_at s i >>= (λ v. value_at d s (skip_at s v))) (member_takes s (value_at d s) (value_takes d s)) close_ends.1 (omega arith) (λ i j v g x n. member_not g x) (skip_at s i + 1) l y₁.2 f.rest in
     record { place = r.place; ended = ap (value_at (suc d) s) q ∙ value_object d s (skip_at s i) f.there ∙ r.ended; rest = r.rest }
 value_takes (suc d) s i i' j v (right (left (pair {u = u} tok l))) y q n =
     let y₁ = seg_split u y in
@@ -444,11 +446,11 @@ unfolding skip_at is_space
 skip_end s = span_stop is_space s (length s) (rw (get_or-eq_default s 0 {n = length s} (omega arith)))
 
 -- every JSON text is taken
-pub complete : (d : ℕ) (s : List ℕ) → Text d s → text_of d s ≡ End (length s)
+pub complete : (d : ℕ) (s : List ℕ) → Text d s → text_of d s ≡ Ok (length s)
 unfolding text_of stop
 complete d s t = go t (seg_whole s)
   where
-    go : {v : List ℕ} → Text d v → Seg s 0 v (length s) → text_of d s ≡ End (length s)
+    go : {v : List ℕ} → Text d v → Seg s 0 v (length s) → text_of d s ≡ Ok (length s)
     go (pair {u = u} a (pair {u = w} v b)) x =
         let y₁ = seg_split u x in
         let y₂ = seg_split w y₁.2 in

@@ -11,13 +11,15 @@ use lib.Seq.{length-take-le, get_or-take}
 use mathlib.Core.Logic.{◌↔◌}
 use lib.Dec.{ltb}
 use borrow.Author.Tests.{lt-ltb}
-use Rattle.jsontext.specs.declared.Read.{Read}
-use Rattle.jsontext.specs.declared.Read.TheVariants.{End, Bad}
+use Rattle.jsontext.specs.declared.Bad.{Bad}
+use Rattle.std.specs.Prelude.{Result, Ok, Err}
 use Rattle.jsontext.specs.declared.Next.{Next}
-use Rattle.jsontext.specs.declared.Next.TheVariants.{Done, More, Wrong}
+use Rattle.jsontext.specs.declared.Next.TheVariants.{Done, More}
 use Rattle.jsontext.specs.declared.Start.{Start}
 use Rattle.text.specs.Bytes.{between, is_digit}
-use Rattle.jsontext.specs.Reading.{is, then, or_else, into, after, is_space, is_escape, is_plain, span, span_at, skip_at, one_at, times_at, some_at, token_at, word_at, run, tails_at, wide_at, escape_at, char_at, quote_or_char_at, string_at, minus_at, sign_at, int_at, fraction_at, is_e, exponent_at, number_at, key_at, start_of, next_at, element_at, member_at, array_at, object_at, by_start, value_at, stop, text_of}
+use Rattle.std.specs.List.{prefix_len}
+use Rattle.std.specs.Result.{result_or}
+use Rattle.jsontext.specs.Reading.{is, refused, ◌>>=◌, after, is_space, is_escape, is_plain, span_at, skip_at, one_at, times_at, some_at, token_at, word_at, run, tails_at, wide_at, escape_at, char_at, quote_or_char_at, string_at, minus_at, sign_at, int_at, fraction_at, is_e, exponent_at, number_at, key_at, start_of, next_at, element_at, member_at, array_at, object_at, by_start, value_at, stop, text_of}
 use Rattle.jsontext.specs.Rfc8259.{Language, word, Byte, ◌·◌, pair, left, Star, none, Opt, Ws, Frac, Exp, Char, Text, Begins, Place}
 use Rattle.jsontext.specs.Judged.{Judged}
 use Rattle.text.proofs.Tests.{cond_cases}
@@ -25,74 +27,74 @@ use Rattle.jsontext.proofs.Sound.{split, seg_end, seg_length, cons_drop, inside_
 use Rattle.jsontext.proofs.Complete.{span_more, span_stop, ws_takes, complete}
 
 -- an answer at a place n or further
-abbrev pub Far : ℕ → Read → Type 0
-Far n (End e) = n ≤ e
-Far n (Bad k) = n ≤ k
+abbrev pub Far : ℕ → Result ℕ Bad → Type 0
+Far n (Ok e) = n ≤ e
+Far n (Err b) = n ≤ b.at
 
-abbrev pub FarNext : ℕ → Next → Type 0
-FarNext n (Done k) = n ≤ k
-FarNext n (More k) = n ≤ k
-FarNext n (Wrong k) = n ≤ k
+abbrev pub FarNext : ℕ → Result Next Bad → Type 0
+FarNext n (Ok (Done k)) = n ≤ k
+FarNext n (Ok (More k)) = n ≤ k
+FarNext n (Err b) = n ≤ b.at
 
 -- two answers that are one, unless the first is far
-pub data Near (n : ℕ) : Read → Read → Type 0 where
-  same : {r : Read} → Near n r r
-  far : {r t : Read} → Far n r → Near n r t
+pub data Near (n : ℕ) : Result ℕ Bad → Result ℕ Bad → Type 0 where
+  same : {r : Result ℕ Bad} → Near n r r
+  far : {r t : Result ℕ Bad} → Far n r → Near n r t
 
-pub data NearNext (n : ℕ) : Next → Next → Type 0 where
-  same : {r : Next} → NearNext n r r
-  far : {r t : Next} → FarNext n r → NearNext n r t
+pub data NearNext (n : ℕ) : Result Next Bad → Result Next Bad → Type 0 where
+  same : {r : Result Next Bad} → NearNext n r r
+  far : {r t : Result Next Bad} → FarNext n r → NearNext n r t
 
-late : {G : Language} {s : List ℕ} {i : ℕ} {r : Read} (n : ℕ) → n ≤ i → Means G s i r → Far n r
+late : {G : Language} {s : List ℕ} {i : ℕ} {r : Result ℕ Bad} (n : ℕ) → n ≤ i → Means G s i r → Far n r
 late n h (ended x a) = let l = seg_length x in omega arith
 late n h (bad z x a) = let l = seg_length x in omega arith
 
-late_step : {G : Language} {s : List ℕ} {i : ℕ} {r : Next} (n : ℕ) → n ≤ i → Steps G s i r → FarNext n r
+late_step : {G : Language} {s : List ℕ} {i : ℕ} {r : Result Next Bad} (n : ℕ) → n ≤ i → Steps G s i r → FarNext n r
 late_step n h (finish x a) = let l = seg_length x in omega arith
 late_step n h (onward x m a) = let l = seg_length x in omega arith
 late_step n h (wrong z x a) = let l = seg_length x in omega arith
 
-progress : {L : Language} {s : List ℕ} {i : ℕ} {r : Next} (k : ℕ) → Steps L s i r → r ≡ More k → (i < k) × (k ≤ length s)
+progress : {L : Language} {s : List ℕ} {i : ℕ} {r : Result Next Bad} (k : ℕ) → Steps L s i r → r ≡ Ok (More k) → (i < k) × (k ≤ length s)
 progress k (finish x a) e = let z : ◌≡◌ {A = ℕ} 0 1 = cc in absurd (omega arith)
 progress k (onward {k = m} x l a) e = let q : m ≡ k = cc in let y = seg_end x l in omega arith
 progress k (wrong z x a) e = let z : ◌≡◌ {A = ℕ} 0 1 = cc in absurd (omega arith)
 
-late_follow : {b : ℕ} {s : List ℕ} {i : ℕ} {r : Next} (n : ℕ) → n ≤ i → Follows b s i r → FarNext n r
+late_follow : {b : ℕ} {s : List ℕ} {i : ℕ} {r : Result Next Bad} (n : ℕ) → n ≤ i → Follows b s i r → FarNext n r
 late_follow n h (closed x) = let l = seg_length x.1 in omega arith
 late_follow n h (comma x) = let l = seg_length x.1 in omega arith
 late_follow n h (neither x) = let l = seg_length x.1 in omega arith
 
-cond_near : {n : ℕ} (b : Bool) {x y x' y' : Read} → Near n x x' → Near n y y' → Near n (cond b x y) (cond b x' y')
+cond_near : {n : ℕ} (b : Bool) {x y x' y' : Result ℕ Bad} → Near n x x' → Near n y y' → Near n (cond b x y) (cond b x' y')
 cond_near true f g = f
 cond_near false f g = g
 
-cond_next : {n : ℕ} (b : Bool) {x y x' y' : Next} → NearNext n x x' → NearNext n y y' → NearNext n (cond b x y) (cond b x' y')
+cond_next : {n : ℕ} (b : Bool) {x y x' y' : Result Next Bad} → NearNext n x x' → NearNext n y y' → NearNext n (cond b x y) (cond b x' y')
 cond_next true f g = f
 cond_next false f g = g
 
-then_near : {H : Language} {n : ℕ} {s : List ℕ} {r t : Read} (g g' : ℕ → Read) → Near n r t → ((e : ℕ) → Near n (g e) (g' e)) → ((e : ℕ) → Means H s e (g e)) → Near n (then r g) (then t g')
-then_near {r = End e} g g' same f m = f e
-then_near {r = Bad k} g g' same f m = same
-then_near {n = n} {r = End e} g g' (far h) f m = far (late n h (m e))
-then_near {r = Bad k} g g' (far h) f m = far h
+then_near : {H : Language} {n : ℕ} {s : List ℕ} {r t : Result ℕ Bad} (g g' : ℕ → Result ℕ Bad) → Near n r t → ((e : ℕ) → Near n (g e) (g' e)) → ((e : ℕ) → Means H s e (g e)) → Near n (r >>= g) (t >>= g')
+then_near {r = Ok e} g g' same f m = f e
+then_near {r = Err b} g g' same f m = same
+then_near {n = n} {r = Ok e} g g' (far h) f m = far (late n h (m e))
+then_near {r = Err b} g g' (far h) f m = far h
 
-into_near : {n : ℕ} {r t : Read} (g g' : ℕ → Next) → Near n r t → ((e : ℕ) → NearNext n (g e) (g' e)) → ((e : ℕ) → n ≤ e → FarNext n (g e)) → NearNext n (into r g) (into t g')
-into_near {r = End e} g g' same f m = f e
-into_near {r = Bad k} g g' same f m = same
-into_near {r = End e} g g' (far h) f m = far (m e h)
-into_near {r = Bad k} g g' (far h) f m = far h
+into_near : {n : ℕ} {r t : Result ℕ Bad} (g g' : ℕ → Result Next Bad) → Near n r t → ((e : ℕ) → NearNext n (g e) (g' e)) → ((e : ℕ) → n ≤ e → FarNext n (g e)) → NearNext n (r >>= g) (t >>= g')
+into_near {r = Ok e} g g' same f m = f e
+into_near {r = Err b} g g' same f m = same
+into_near {r = Ok e} g g' (far h) f m = far (m e h)
+into_near {r = Err b} g g' (far h) f m = far h
 
-after_near : {n : ℕ} {a b : Next} (g g' : ℕ → Read) → NearNext n a b → ((k : ℕ) → a ≡ More k → b ≡ More k → Near n (g k) (g' k)) → ((k : ℕ) → n ≤ k → Far n (g k)) → Near n (after a g) (after b g')
-after_near {a = Done k} g g' same f m = same
-after_near {a = More k} g g' same f m = f k refl refl
-after_near {a = Wrong k} g g' same f m = same
-after_near {a = Done k} g g' (far h) f m = far h
-after_near {a = More k} g g' (far h) f m = far (m k h)
-after_near {a = Wrong k} g g' (far h) f m = far h
+after_near : {n : ℕ} {a b : Result Next Bad} (g g' : ℕ → Result ℕ Bad) → NearNext n a b → ((k : ℕ) → a ≡ Ok (More k) → b ≡ Ok (More k) → Near n (g k) (g' k)) → ((k : ℕ) → n ≤ k → Far n (g k)) → Near n (after a g) (after b g')
+after_near {a = Ok (Done k)} g g' same f m = same
+after_near {a = Ok (More k)} g g' same f m = f k refl refl
+after_near {a = Err b} g g' same f m = same
+after_near {a = Ok (Done k)} g g' (far h) f m = far h
+after_near {a = Ok (More k)} g g' (far h) f m = far (m k h)
+after_near {a = Err b} g g' (far h) f m = far h
 
-else_near : {n : ℕ} (r : Read) (g g' : ℕ → Read) → ((k : ℕ) → Near n (g k) (g' k)) → Near n (or_else r g) (or_else r g')
-else_near (End e) g g' f = same
-else_near (Bad k) g g' f = f k
+else_near : {n : ℕ} (r : Result ℕ Bad) {x y : Result ℕ Bad} → Near n x y → Near n (result_or r x) (result_or r y)
+else_near (Ok e) f = same
+else_near (Err b) f = f
 
 nil_drop : (s : List ℕ) (i : ℕ) → drop i s ≡ [] → get_or s i 0 ≡ 0
 nil_drop [] i e = refl
@@ -104,19 +106,18 @@ skip_twice s i = let r = ws_reads s i in ws_takes r.2 r.1
 
 -- two lists that agree before n
 module _ (s s' : List ℕ) (n : ℕ) (ag : (j : ℕ) → j < n → get_or s j 0 ≡ get_or s' j 0) where
-  near_from : {G : Language} {i : ℕ} {r t : Read} → Means G s i r → (i < n → Near n r t) → Near n r t
+  near_from : {G : Language} {i : ℕ} {r t : Result ℕ Bad} → Means G s i r → (i < n → Near n r t) → Near n r t
   near_from {i = i} m f = split n i f (λ h. far (late n h m))
 
   byte_near : (p : ℕ → Bool) (i : ℕ) → Near n (one_at p s i) (one_at p s' i)
   unfolding one_at
   byte_near p i = split n i (λ h. rw (← (ag i h)) same) (λ h. far (cond_cases (Far n) (p (get_or s i 0)) (λ q. omega arith) (λ q. h)))
 
-  span_agree : (p : ℕ → Bool) → p 0 ≡ false → (l : List ℕ) (i : ℕ) → drop i s ≡ l → i + span p l < n → span_at p s' i ≡ i + span p l
-  unfolding span
+  span_agree : (p : ℕ → Bool) → p 0 ≡ false → (l : List ℕ) (i : ℕ) → drop i s ≡ l → i + prefix_len p l < n → span_at p s' i ≡ i + prefix_len p l
   span_agree p z [] i e h = span_stop p s' i (rw (← (ag i (omega arith)), nil_drop s i e, z)) ∙ sym (add-zero i)
   span_agree p z (x ∷ l) i e h = let r = cons_drop s i x l e in go (p x) refl (span_agree p z l (i + 1) r.2) h
     where
-      go : (b : Bool) → p x ≡ b → (i + 1 + span p l < n → span_at p s' (i + 1) ≡ i + 1 + span p l) → i + (elim b [ true ↦ suc (span p l) | false ↦ zero ]) < n → span_at p s' i ≡ i + (elim b [ true ↦ suc (span p l) | false ↦ zero ])
+      go : (b : Bool) → p x ≡ b → (i + 1 + prefix_len p l < n → span_at p s' (i + 1) ≡ i + 1 + prefix_len p l) → i + (cond b (1 + prefix_len p l) 0) < n → span_at p s' i ≡ i + (cond b (1 + prefix_len p l) 0)
       go true q f h =
           let r = cons_drop s i x l e in
           let w : p (get_or s' i 0) ≡ true = rw (← (ag i (omega arith)), r.1, q) in
@@ -180,7 +181,7 @@ module _ (s s' : List ℕ) (n : ℕ) (ag : (j : ℕ) → j < n → get_or s j 0 
   any_near i h = let l : sign_at s i ≡ i + _ = seg_length (any_reads s i).1 in let k : i < n = omega arith in rw (← (ag i k))
 
   -- from a place that both find
-  at_place : {G : Language} (k k' : ℕ) (rd rd' : ℕ → Read) → (k < n → k' ≡ k) → Means G s k (rd k) → Near n (rd k) (rd' k) → Near n (rd k) (rd' k')
+  at_place : {G : Language} (k k' : ℕ) (rd rd' : ℕ → Result ℕ Bad) → (k < n → k' ≡ k) → Means G s k (rd k) → Near n (rd k) (rd' k) → Near n (rd k) (rd' k')
   at_place k k' rd rd' f m x = near_from m (λ h. rw (f h) x)
 
   whole_near : (i : ℕ) → Near n (int_at s i) (int_at s' i)
@@ -204,7 +205,7 @@ module _ (s s' : List ℕ) (n : ℕ) (ag : (j : ℕ) → j < n → get_or s j 0 
       (λ j. then_near {H = Opt Exp} _ _ (fraction_near j) exponent_near (exponent_means s)) (λ j. then_means _ (fraction_means s j) ([], left word) (λ k. exponent_means s k))
 
   -- loops
-  run_near : {L : Language} (step step' : ℕ → Next) → Some L → ((j : ℕ) → Steps L s j (step j)) → ((j : ℕ) → Steps L s' j (step' j)) → ((j : ℕ) → NearNext n (step j) (step' j)) → (f f' i : ℕ) → i ≤ length s → i ≤ length s' → length s < f + i → length s' < f' + i → Near n (run step f i) (run step' f' i)
+  run_near : {L : Language} (step step' : ℕ → Result Next Bad) → Some L → ((j : ℕ) → Steps L s j (step j)) → ((j : ℕ) → Steps L s' j (step' j)) → ((j : ℕ) → NearNext n (step j) (step' j)) → (f f' i : ℕ) → i ≤ length s → i ≤ length s' → length s < f + i → length s' < f' + i → Near n (run step f i) (run step' f' i)
   unfolding run
   run_near step step' h st st' nr zero f' i a b c d = absurd (omega arith)
   run_near step step' h st st' nr (suc f) zero i a b c d = absurd (omega arith)
@@ -213,7 +214,7 @@ module _ (s s' : List ℕ) (n : ℕ) (ag : (j : ℕ) → j < n → get_or s j 0 
       (λ k e e'. let p = progress k (st i) e in let q = progress k (st' i) e' in run_near step step' h st st' nr f f' k p.1 q.1 (omega arith) (omega arith))
       (λ k l. late n l (run_means step h st f k))
 
-  loop_near : {L : Language} (step step' : ℕ → Next) → Some L → ((j : ℕ) → Steps L s j (step j)) → ((j : ℕ) → Steps L s' j (step' j)) → ((j : ℕ) → NearNext n (step j) (step' j)) → (i : ℕ) → Near n (run step (suc (length s)) i) (run step' (suc (length s')) i)
+  loop_near : {L : Language} (step step' : ℕ → Result Next Bad) → Some L → ((j : ℕ) → Steps L s j (step j)) → ((j : ℕ) → Steps L s' j (step' j)) → ((j : ℕ) → NearNext n (step j) (step' j)) → (i : ℕ) → Near n (run step (suc (length s)) i) (run step' (suc (length s')) i)
   unfolding run
   loop_near step step' h st st' nr i =
       after_near _ _ (nr i)
@@ -248,7 +249,7 @@ module _ (s s' : List ℕ) (n : ℕ) (ag : (j : ℕ) → j < n → get_or s j 0 
   token_same b i h = rw (skip_near i h, ← (ag (skip_at s i) h))
 
   -- an array or an object looks past white space first
-  module _ {G : Language} (h : Some G) (rd rd' : ℕ → Read) (m : (i : ℕ) → Means G s i (rd i)) (m' : (i : ℕ) → Means G s' i (rd' i)) (nr : (i : ℕ) → Near n (rd i) (rd' i)) where
+  module _ {G : Language} (h : Some G) (rd rd' : ℕ → Result ℕ Bad) (m : (i : ℕ) → Means G s i (rd i)) (m' : (i : ℕ) → Means G s' i (rd' i)) (nr : (i : ℕ) → Near n (rd i) (rd' i)) where
     value_near : (j : ℕ) → Near n (rd (skip_at s j)) (rd' (skip_at s' j))
     value_near j = at_place (skip_at s j) (skip_at s' j) rd rd' (skip_near j) (m (skip_at s j)) (nr (skip_at s j))
 
@@ -272,16 +273,16 @@ module _ (s s' : List ℕ) (n : ℕ) (ag : (j : ℕ) → j < n → get_or s j 0 
     array_near : (i : ℕ) → Near n (array_at rd s i) (array_at rd' s' i)
     unfolding array_at
     array_near i =
-        split n (skip_at s i) (λ l. rw (token_same 93 i l) (else_near (token_at 93 s i) _ _ (λ k. loop_near (element_at rd s) (element_at rd' s') (some_items 93 h) (element_steps h s rd m) (element_steps h s' rd' m') element_near i)))
+        split n (skip_at s i) (λ l. rw (token_same 93 i l) (else_near (token_at 93 s i) (loop_near (element_at rd s) (element_at rd' s') (some_items 93 h) (element_steps h s rd m) (element_steps h s' rd' m') element_near i)))
         (λ l. far (subst⁻¹ (Far n) (array_skip i) (late n l (array_means h s rd m (skip_at s i)))))
 
     object_near : (i : ℕ) → Near n (object_at rd s i) (object_at rd' s' i)
     unfolding object_at
     object_near i =
-        split n (skip_at s i) (λ l. rw (token_same 125 i l) (else_near (token_at 125 s i) _ _ (λ k. loop_near (member_at rd s) (member_at rd' s') (some_items 125 (some_member h s rd m)) (member_steps h s rd m) (member_steps h s' rd' m') member_near i)))
+        split n (skip_at s i) (λ l. rw (token_same 125 i l) (else_near (token_at 125 s i) (loop_near (member_at rd s) (member_at rd' s') (some_items 125 (some_member h s rd m)) (member_steps h s rd m) (member_steps h s' rd' m') member_near i)))
         (λ l. far (subst⁻¹ (Far n) (object_skip i) (late n l (object_means h s rd m (skip_at s i)))))
 
-  start_near : (t : Start) (i : ℕ) (arr arr' obj obj' : ℕ → Read) → Near n (arr (i + 1)) (arr' (i + 1)) → Near n (obj (i + 1)) (obj' (i + 1)) → Near n (by_start t s i arr obj) (by_start t s' i arr' obj')
+  start_near : (t : Start) (i : ℕ) (arr arr' obj obj' : ℕ → Result ℕ Bad) → Near n (arr (i + 1)) (arr' (i + 1)) → Near n (obj (i + 1)) (obj' (i + 1)) → Near n (by_start t s i arr obj) (by_start t s' i arr' obj')
   start_near Start.Array i arr arr' obj obj' a o = a
   start_near Start.Object i arr arr' obj obj' a o = o
   start_near Start.Text i arr arr' obj obj' a o = text_near (i + 1)
@@ -293,7 +294,7 @@ module _ (s s' : List ℕ) (n : ℕ) (ag : (j : ℕ) → j < n → get_or s j 0 
 
   values_near : (d i : ℕ) → Near n (value_at d s i) (value_at d s' i)
   unfolding value_at
-  values_near zero i = near_from (value_means zero s i) (λ h. rw (← (ag i h)) (start_near (start_of (get_or s i 0)) i (λ j. Bad i) (λ j. Bad i) (λ j. Bad i) (λ j. Bad i) same same))
+  values_near zero i = near_from (value_means zero s i) (λ h. rw (← (ag i h)) (start_near (start_of (get_or s i 0)) i (λ j. refused i) (λ j. refused i) (λ j. refused i) (λ j. refused i) same same))
   values_near (suc d) i =
       near_from (value_means (suc d) s i)
       (λ h. rw (← (ag i h)) (start_near (start_of (get_or s i 0)) i (λ j. array_at (value_at d s) s j) (λ j. array_at (value_at d s') s' j) (λ j. object_at (value_at d s) s j) (λ j. object_at (value_at d s') s' j)
@@ -314,23 +315,23 @@ module _ (s s' : List ℕ) (n : ℕ) (ag : (j : ℕ) → j < n → get_or s j 0 
       (λ e. split n (skip_at s e) (λ l. rw (skip_near e l) (stop_near a b (skip_at s e) l)) (λ l. far (stop_far (skip_at s e) l))) (stop_means s)
 
 -- taken exactly when it is a JSON text nested at most d deep
-pub decides : (d : ℕ) (s : List ℕ) → (text_of d s ≡ End (length s)) ↔ Text d s
+pub decides : (d : ℕ) (s : List ℕ) → (text_of d s ≡ Ok (length s)) ↔ Text d s
 decides d s = (sound d s (length s), complete d s)
 
-clash : {r t : Read} (k e : ℕ) → Near (k + 1) r t → r ≡ Bad k → t ≡ End e → ⊥
+clash : {r t : Result ℕ Bad} (k e : ℕ) → Near (k + 1) r t → r ≡ refused k → t ≡ Ok e → ⊥
 clash k e same p q = let z : ◌≡◌ {A = ℕ} 0 1 = cc in omega arith
-clash {r = End m} k e (far h) p q = let z : ◌≡◌ {A = ℕ} 0 1 = cc in omega arith
-clash {r = Bad m} k e (far h) p q = let z : m ≡ k = cc in omega arith
+clash {r = Ok m} k e (far h) p q = let z : ◌≡◌ {A = ℕ} 0 1 = cc in omega arith
+clash {r = Err m} k e (far h) p q = let z : m.at ≡ k = cc in omega arith
 
 begins_here : (s x : List ℕ) (m j : ℕ) → m ≤ length s → j < m → get_or s j 0 ≡ get_or (take m s ++ x) j 0
 begins_here s x m j h l =
     let n = length-take-le m s h in
     sym (get_or-append (take m s) x 0 j (omega arith) ∙ get_or-take m s j 0 l)
 
-pub place : (d : ℕ) (s : List ℕ) (k : ℕ) → text_of d s ≡ Bad k → Place d s k
+pub place : (d : ℕ) (s : List ℕ) (k : ℕ) → text_of d s ≡ refused k → Place d s k
 place d s k q = record { fits = go (subst (λ r. Means (Text d) s 0 r) q (text_means_of d s)); begins = viable d s k q; longest = late_one }
   where
-    go : Means (Text d) s 0 (Bad k) → k ≤ length s
+    go : Means (Text d) s 0 (refused k) → k ≤ length s
     go (bad z x a) = split k 0 (λ h. seg_end x h) (λ h. omega arith)
 
     late_one : (m : ℕ) → k < m → m ≤ length s → Begins d (take m s) → ⊥
@@ -339,7 +340,7 @@ place d s k q = record { fits = go (subst (λ r. Means (Text d) s 0 r) q (text_m
         let y = length-append (take m s) b.0 in
         clash k _ (texts_near s (take m s ++ b.0) (k + 1) (λ j w. begins_here s b.0 m j h (omega arith)) (omega arith) (omega arith) d) q (complete d _ b.1)
 
-pub judged : (d : ℕ) (s : List ℕ) (r : Read) → r ≡ text_of d s → Judged d s r
+pub judged : (d : ℕ) (s : List ℕ) (r : Result ℕ Bad) → r ≡ text_of d s → Judged d s r
 unfolding Judged
-judged d s (End e) q = let t = sound d s e (sym q) in let c = complete d s t in (cc, t)
-judged d s (Bad k) q = ((λ t. let c = complete d s t in let z : ◌≡◌ {A = ℕ} 0 1 = cc in omega arith), place d s k (sym q))
+judged d s (Ok e) q = let t = sound d s e (sym q) in let c = complete d s t in (cc, t)
+judged d s (Err b) q = ((λ t. let c = complete d s t in let z : ◌≡◌ {A = ℕ} 0 1 = cc in omega arith), place d s b.at (sym q))

@@ -12,13 +12,15 @@ use lib.Dec.{ltb}
 use borrow.Author.Tests.{eqb-true, ltb-true, ltb-false, lt-ltb, ne_eqb}
 use Rattle.text.proofs.Tests.{by_test, cond_cases, and_right, clash}
 use Rattle.text.proofs.ByteLaws.{between_low, between_high}
-use Rattle.jsontext.specs.declared.Read.{Read}
-use Rattle.jsontext.specs.declared.Read.TheVariants.{End, Bad}
+use Rattle.jsontext.specs.declared.Bad.{Bad}
+use Rattle.std.specs.Prelude.{Result, Ok, Err}
 use Rattle.jsontext.specs.declared.Next.{Next}
-use Rattle.jsontext.specs.declared.Next.TheVariants.{Done, More, Wrong}
+use Rattle.jsontext.specs.declared.Next.TheVariants.{Done, More}
 use Rattle.jsontext.specs.declared.Start.{Start}
 use Rattle.text.specs.Bytes.{between, is_digit}
-use Rattle.jsontext.specs.Reading.{is, then, or_else, into, after, is_space, is_hex, is_escape, is_plain, span, span_at, skip_at, one_at, times_at, some_at, token_at, word_at, run, tails_at, wide_at, escape_at, char_at, quote_or_char_at, string_at, minus_at, sign_at, int_at, fraction_at, is_e, exponent_at, number_at, key_at, start_of, next_at, element_at, member_at, array_at, object_at, by_start, value_at, stop, text_of}
+use Rattle.std.specs.List.{prefix_len}
+use Rattle.std.specs.Result.{result_or}
+use Rattle.jsontext.specs.Reading.{is, refused, ◌>>=◌, after, is_space, is_hex, is_escape, is_plain, span_at, skip_at, one_at, times_at, some_at, token_at, word_at, run, tails_at, wide_at, escape_at, char_at, quote_or_char_at, string_at, minus_at, sign_at, int_at, fraction_at, is_e, exponent_at, number_at, key_at, start_of, next_at, element_at, member_at, array_at, object_at, by_start, value_at, stop, text_of}
 use Rattle.jsontext.specs.Rfc8259.{Language, Word, word, Byte, Range, within, ◌·◌, pair, ◌∣◌, left, right, Star, none, more, Opt, Times, Ws, Token, Digit, HexDig, Minus, Int, Frac, Exp, Number, Tail, Wide, Escaped, Char, String, Listed, Member, Literal, Value, Text, Begins}
 
 -- s holds the bytes v from place i on, up to place j
@@ -50,23 +52,23 @@ pub seg_take : {s v : List ℕ} {j : ℕ} → Seg s 0 v j → take j s ≡ v
 seg_take {s} {v} {j} x = let c : s ≡ v ++ drop j s = seg_drop x in let n = seg_length x in rw (c, take_at v (drop j s) j (omega arith))
 
 -- a reader's answer, told in the grammar
-pub data Means (G : List ℕ → Type 0) (s : List ℕ) (i : ℕ) : Read → Type 0 where
-  ended : {e : ℕ} {v : List ℕ} → Seg s i v e → G v → Means G s i (End e)
-  bad : {k : ℕ} {v : List ℕ} (x : List ℕ) → Seg s i v k → G (v ++ x) → Means G s i (Bad k)
+pub data Means (G : List ℕ → Type 0) (s : List ℕ) (i : ℕ) : Result ℕ Bad → Type 0 where
+  ended : {e : ℕ} {v : List ℕ} → Seg s i v e → G v → Means G s i (Ok e)
+  bad : {k : ℕ} {v : List ℕ} (x : List ℕ) → Seg s i v k → G (v ++ x) → Means G s i (refused k)
 
 abbrev pub Some : Language → Type 0
 Some G = (x : List ℕ) × G x
 
 module _ {G H : Language} {s : List ℕ} where
-  pub map_means : {i : ℕ} {r : Read} → ((v : List ℕ) → G v → H v) → Means G s i r → Means H s i r
+  pub map_means : {i : ℕ} {r : Result ℕ Bad} → ((v : List ℕ) → G v → H v) → Means G s i r → Means H s i r
   map_means f (ended x a) = ended x (f _ a)
   map_means f (bad z x a) = bad z x (f _ a)
 
-  pub glue : {i j : ℕ} {r : Read} {v : List ℕ} → Seg s i v j → G v → Means H s j r → Means (G · H) s i r
+  pub glue : {i j : ℕ} {r : Result ℕ Bad} {v : List ℕ} → Seg s i v j → G v → Means H s j r → Means (G · H) s i r
   glue x a (ended y b) = ended (seg_append x y) (pair a b)
   glue x a (bad z y b) = bad z (seg_append x y) (rw append_assoc (pair a b))
 
-  pub then_means : {i : ℕ} {r : Read} (g : ℕ → Read) → Means G s i r → Some H → ((e : ℕ) → Means H s e (g e)) → Means (G · H) s i (then r g)
+  pub then_means : {i : ℕ} {r : Result ℕ Bad} (g : ℕ → Result ℕ Bad) → Means G s i r → Some H → ((e : ℕ) → Means H s e (g e)) → Means (G · H) s i (r >>= g)
   then_means g (ended x a) h f = glue x a (f _)
   then_means g (bad z x a) h f = bad (z ++ h.0) x (rw (← append_assoc) (pair a h.1))
 
@@ -113,7 +115,7 @@ Reads G s i j = (v : List ℕ) × Seg s i v j × G v
 pub reads_then : {G H : Language} {s : List ℕ} {i j k : ℕ} → Reads G s i j → Reads H s j k → Reads (G · H) s i k
 reads_then a b = (_, seg_append a.1 b.1, pair a.2 b.2)
 
-pub reads_means : {G H : Language} {s : List ℕ} {i j : ℕ} {r : Read} → Reads G s i j → Means H s j r → Means (G · H) s i r
+pub reads_means : {G H : Language} {s : List ℕ} {i j : ℕ} {r : Result ℕ Bad} → Reads G s i j → Means H s j r → Means (G · H) s i r
 reads_means a m = glue a.1 a.2 m
 
 module _ {p : ℕ → Bool} {G : Language} (c : Class p G) where
@@ -121,15 +123,14 @@ module _ {p : ℕ → Bool} {G : Language} (c : Class p G) where
   unfolding one_at
   byte_means h s i = cond_cases (Means G s i) (p (get_or s i 0)) (λ q. ended (one p s i c.zeroth q) (c.member _ q)) (λ q. bad h.0 here h.1)
 
-  pub span_go : (s l : List ℕ) (i : ℕ) → drop i s ≡ l → Reads (Star G) s i (i + span p l)
-  unfolding span
+  pub span_go : (s l : List ℕ) (i : ℕ) → drop i s ≡ l → Reads (Star G) s i (i + prefix_len p l)
   span_go s [] i e = ([], rw (add-zero i) here, none)
   span_go s (x ∷ l) i e = let r = cons_drop s i x l e in go (p x) refl (span_go s l (i + 1) r.2)
     where
-      go : (b : Bool) → p x ≡ b → Reads (Star G) s (i + 1) (i + 1 + span p l) → Reads (Star G) s i (i + (elim b [ true ↦ suc (span p l) | false ↦ zero ]))
+      go : (b : Bool) → p x ≡ b → Reads (Star G) s (i + 1) (i + 1 + prefix_len p l) → Reads (Star G) s i (i + (cond b (1 + prefix_len p l) 0))
       go true q t =
           let r = cons_drop s i x l e in
-          let n : i + suc (span p l) ≡ i + 1 + span p l = omega arith in
+          let n : i + (1 + prefix_len p l) ≡ i + 1 + prefix_len p l = omega arith in
           rw n (x ∷ t.0, byte r.0 r.1 t.1, more (c.member x q) t.2)
       go false q t = ([], rw (add-zero i) here, none)
 
@@ -147,16 +148,16 @@ module _ {p : ℕ → Bool} {G : Language} (c : Class p G) where
 
 -- by the first byte
 module _ {G : Language} {p : ℕ → Bool} (c : Class p G) (s : List ℕ) (i : ℕ) where
-  pub alt_means : {H K : Language} {r t : Read} → Means H s (i + 1) r → Means K s i t → Means (G · H ∣ K) s i (cond (p (get_or s i 0)) r t)
+  pub alt_means : {H K : Language} {r t : Result ℕ Bad} → Means H s (i + 1) r → Means K s i t → Means (G · H ∣ K) s i (cond (p (get_or s i 0)) r t)
   alt_means {H} {K} m n = cond_cases (Means (G · H ∣ K) s i) (p (get_or s i 0)) (λ q. map_means (λ v. left) (reads_means (byte_reads c s i q) m)) (λ q. map_means (λ v. right) n)
 
-  pub alt_byte : {K : Language} {t : Read} → Means K s i t → Means (G ∣ K) s i (cond (p (get_or s i 0)) (End (i + 1)) t)
+  pub alt_byte : {K : Language} {t : Result ℕ Bad} → Means K s i t → Means (G ∣ K) s i (cond (p (get_or s i 0)) (Ok (i + 1)) t)
   alt_byte {K} n = cond_cases (Means (G ∣ K) s i) (p (get_or s i 0)) (λ q. let r = byte_reads c s i q in ended r.1 (left r.2)) (λ q. map_means (λ v. right) n)
 
-  pub alt_last : {H : Language} {r : Read} → Some (G · H) → Means H s (i + 1) r → Means (G · H) s i (cond (p (get_or s i 0)) r (Bad i))
+  pub alt_last : {H : Language} {r : Result ℕ Bad} → Some (G · H) → Means H s (i + 1) r → Means (G · H) s i (cond (p (get_or s i 0)) r (refused i))
   alt_last {H} h m = cond_cases (Means (G · H) s i) (p (get_or s i 0)) (λ q. reads_means (byte_reads c s i q) m) (λ q. bad h.0 here h.1)
 
-  pub alt_none : {H : Language} {r : Read} → Means H s (i + 1) r → Means (Opt (G · H)) s i (cond (p (get_or s i 0)) r (End i))
+  pub alt_none : {H : Language} {r : Result ℕ Bad} → Means H s (i + 1) r → Means (Opt (G · H)) s i (cond (p (get_or s i 0)) r (Ok i))
   alt_none {H} m = cond_cases (Means (Opt (G · H)) s i) (p (get_or s i 0)) (λ q. map_means (λ v. right) (reads_means (byte_reads c s i q) m)) (λ q. ended here (left word))
 
 pub some_means : {G H : Language} {p q : ℕ → Bool} → Class p G → Class q H → Some G → (s : List ℕ) (i : ℕ) → Means (G · Star H) s i (some_at p q s i)
@@ -308,22 +309,22 @@ char_first (left (right c)) x = let r = wide_first c x in omega arith
 char_first (right (pair word t)) (byte h e x) = let n = seg_length x in omega arith
 
 -- a step of a loop that reads a language
-pub data Steps (L : List ℕ → Type 0) (s : List ℕ) (i : ℕ) : Next → Type 0 where
-  finish : {k : ℕ} {v : List ℕ} → Seg s i v k → L v → Steps L s i (Done k)
-  onward : {k : ℕ} {v : List ℕ} → Seg s i v k → i < k → ((w : List ℕ) → L w → L (v ++ w)) → Steps L s i (More k)
-  wrong : {k : ℕ} {v : List ℕ} (x : List ℕ) → Seg s i v k → L (v ++ x) → Steps L s i (Wrong k)
+pub data Steps (L : List ℕ → Type 0) (s : List ℕ) (i : ℕ) : Result Next Bad → Type 0 where
+  finish : {k : ℕ} {v : List ℕ} → Seg s i v k → L v → Steps L s i (Ok (Done k))
+  onward : {k : ℕ} {v : List ℕ} → Seg s i v k → i < k → ((w : List ℕ) → L w → L (v ++ w)) → Steps L s i (Ok (More k))
+  wrong : {k : ℕ} {v : List ℕ} (x : List ℕ) → Seg s i v k → L (v ++ x) → Steps L s i (refused k)
 
 module _ {L : Language} {s : List ℕ} where
-  pub onto : {i k : ℕ} {v : List ℕ} {r : Read} → Seg s i v k → ((w : List ℕ) → L w → L (v ++ w)) → Means L s k r → Means L s i r
+  pub onto : {i k : ℕ} {v : List ℕ} {r : Result ℕ Bad} → Seg s i v k → ((w : List ℕ) → L w → L (v ++ w)) → Means L s k r → Means L s i r
   onto x f (ended y b) = ended (seg_append x y) (f _ b)
   onto x f (bad z y b) = bad z (seg_append x y) (rw append_assoc (f _ b))
 
-  pub after_means : {i : ℕ} {n : Next} (g : ℕ → Read) → Steps L s i n → ((k : ℕ) → Means L s k (g k)) → Means L s i (after n g)
+  pub after_means : {i : ℕ} {n : Result Next Bad} (g : ℕ → Result ℕ Bad) → Steps L s i n → ((k : ℕ) → Means L s k (g k)) → Means L s i (after n g)
   after_means g (finish x a) f = ended x a
   after_means g (onward x l a) f = onto x a (f _)
   after_means g (wrong z x a) f = bad z x a
 
-  pub run_means : (step : ℕ → Next) → Some L → ((j : ℕ) → Steps L s j (step j)) → (f i : ℕ) → Means L s i (run step f i)
+  pub run_means : (step : ℕ → Result Next Bad) → Some L → ((j : ℕ) → Steps L s j (step j)) → (f i : ℕ) → Means L s i (run step f i)
   unfolding run
   run_means step h m zero i = bad h.0 here h.1
   run_means step h m (suc f) i = after_means _ (m i) (λ k. run_means step h m f k)
@@ -336,7 +337,7 @@ unfolding quote_or_char_at
 char_steps s i =
     cond_cases (Steps (Star Char · Byte 0x22) s i) (is 34 (get_or s i 0)) (λ q. let r = byte_reads (eq_class 34) s i q in finish r.1 (pair none r.2)) (λ q. go (char_means s i))
   where
-    go : {r : Read} → Means Char s i r → Steps (Star Char · Byte 0x22) s i (into r (λ k. More k))
+    go : {r : Result ℕ Bad} → Means Char s i r → Steps (Star Char · Byte 0x22) s i (r >>= (λ k. Ok (More k)))
     go (ended x c) = onward x (char_first c x).1 (λ w l. add_char c l)
     go (bad z x c) = wrong (z ++ (34 ∷ [])) x (rw (← append_assoc) (add_char c (pair none word)))
 
@@ -354,10 +355,10 @@ unfolding token_at
 token_means b s i = reads_means (ws_reads s i) (byte_means (eq_class b) (some_word _) s (skip_at s i))
 
 -- what follows an item
-pub data Follows (close : ℕ) (s : List ℕ) (i : ℕ) : Next → Type 0 where
-  closed : {k : ℕ} → Reads (Ws · Byte close) s i k → Follows close s i (Done k)
-  comma : {k : ℕ} → Reads (Ws · Byte 0x2C) s i k → Follows close s i (More k)
-  neither : {k : ℕ} → Reads Ws s i k → Follows close s i (Wrong k)
+pub data Follows (close : ℕ) (s : List ℕ) (i : ℕ) : Result Next Bad → Type 0 where
+  closed : {k : ℕ} → Reads (Ws · Byte close) s i k → Follows close s i (Ok (Done k))
+  comma : {k : ℕ} → Reads (Ws · Byte 0x2C) s i k → Follows close s i (Ok (More k))
+  neither : {k : ℕ} → Reads Ws s i k → Follows close s i (refused k)
 
 pub next_follows : (close : ℕ) (s : List ℕ) (i : ℕ) → Follows close s i (next_at close s i)
 unfolding next_at
@@ -390,18 +391,18 @@ comma_past x y (pair {u = w} a word) =
     let n = length-append w (44 ∷ []) in
     omega arith
 
-pub item_steps : {G : Language} (close : ℕ) (s : List ℕ) {j : ℕ} {r : Read} (g : ℕ → Next) → Means (Ws · G) s j r → ((e : ℕ) → Follows close s e (g e)) → Steps (Items G close) s j (into r g)
+pub item_steps : {G : Language} (close : ℕ) (s : List ℕ) {j : ℕ} {r : Result ℕ Bad} (g : ℕ → Result Next Bad) → Means (Ws · G) s j r → ((e : ℕ) → Follows close s e (g e)) → Steps (Items G close) s j (r >>= g)
 item_steps {G} close s g (bad z x a) f = wrong (z ++ (close ∷ [])) x (rw (← append_assoc) (last_item a (pair none word)))
 item_steps {G} close s {j} g (ended {e = e} {v = v} x a) f = go (f e)
   where
-    go : {n : Next} → Follows close s e n → Steps (Items G close) s j n
+    go : {n : Result Next Bad} → Follows close s e n → Steps (Items G close) s j n
     go (closed t) = finish (seg_append x t.1) (last_item a t.2)
     go (comma t) = onward (seg_append x t.1) (comma_past x t.1 t.2) (λ w l. more_item a t.2 l)
     go (neither t) = wrong (close ∷ []) (seg_append x t.1) (rw append_assoc (last_item a (pair t.2 word)))
 
-pub else_means : {G H : Language} {s : List ℕ} {i : ℕ} {r : Read} (g : ℕ → Read) → Means G s i r → ((k : ℕ) → Means H s i (g k)) → Means (G ∣ H) s i (or_else r g)
-else_means g (ended x a) f = ended x (left a)
-else_means g (bad z x a) f = map_means (λ v. right) (f _)
+pub else_means : {G H : Language} {s : List ℕ} {i : ℕ} {r t : Result ℕ Bad} → Means G s i r → Means H s i t → Means (G ∣ H) s i (result_or r t)
+else_means (ended x a) f = ended x (left a)
+else_means (bad z x a) f = map_means (λ v. right) f
 
 pub bracketed : {G : Language} {start close : ℕ} {v : List ℕ} → (Byte start · (Ws · Byte close ∣ Items G close)) v → (Token start · Opt (Listed G) · Token close) v
 bracketed (pair word (left (pair w word))) = pair (pair none (pair word none)) (pair (left word) (pair w (pair word none)))
@@ -417,14 +418,14 @@ key_means s i =
     then_means _ (token_means 34 s i) (some_pair (some_pair some_star (some_word _)) (some_pair some_star (some_word _)))
     (λ q. then_means _ (text_means s q) (some_pair some_star (some_word _)) (λ e. token_means 58 s e))
 
-module _ {G : Language} (h : Some G) (s : List ℕ) (rd : ℕ → Read) (m : (i : ℕ) → Means G s i (rd i)) where
+module _ {G : Language} (h : Some G) (s : List ℕ) (rd : ℕ → Result ℕ Bad) (m : (i : ℕ) → Means G s i (rd i)) where
   pub element_steps : (j : ℕ) → Steps (Items G 0x5D) s j (element_at rd s j)
   unfolding element_at
   element_steps j = item_steps 93 s _ (reads_means (ws_reads s j) (m (skip_at s j))) (next_follows 93 s)
 
   pub array_means : (i : ℕ) → Means (Ws · Byte 0x5D ∣ Items G 0x5D) s i (array_at rd s i)
   unfolding array_at
-  array_means i = else_means _ (token_means 93 s i) (λ k. run_means (element_at rd s) (some_items 93 h) element_steps (suc (length s)) i)
+  array_means i = else_means (token_means 93 s i) (run_means (element_at rd s) (some_items 93 h) element_steps (suc (length s)) i)
 
   pub some_member : Some (Member G)
   some_member = some_pair (some_pair (some_word _) (some_pair some_star (some_word _))) (some_pair (some_pair some_star (some_pair (some_word _) some_star)) h)
@@ -436,7 +437,7 @@ module _ {G : Language} (h : Some G) (s : List ℕ) (rd : ℕ → Read) (m : (i 
 
   pub object_means : (i : ℕ) → Means (Ws · Byte 0x7D ∣ Items (Member G) 0x7D) s i (object_at rd s i)
   unfolding object_at
-  object_means i = else_means _ (token_means 125 s i) (λ k. run_means (member_at rd s) (some_items 125 some_member) member_steps (suc (length s)) i)
+  object_means i = else_means (token_means 125 s i) (run_means (member_at rd s) (some_items 125 some_member) member_steps (suc (length s)) i)
 
 -- values
 abbrev pub Fact : ℕ → Start → Type 0
@@ -466,7 +467,7 @@ some_number = (48 ∷ [], pair (left word) (pair (left word) (pair (left word) (
 abbrev pub Simple : Language
 Simple = Literal ∣ Number ∣ String
 
-pub by_start_lem : {A O : Language} (s : List ℕ) (i : ℕ) (arr obj : ℕ → Read) → (is 91 (get_or s i 0) ≡ true → Means A s i (arr (i + 1))) → (is 123 (get_or s i 0) ≡ true → Means O s i (obj (i + 1))) → (t : Start) → Fact (get_or s i 0) t → Means (O ∣ A ∣ Simple) s i (by_start t s i arr obj)
+pub by_start_lem : {A O : Language} (s : List ℕ) (i : ℕ) (arr obj : ℕ → Result ℕ Bad) → (is 91 (get_or s i 0) ≡ true → Means A s i (arr (i + 1))) → (is 123 (get_or s i 0) ≡ true → Means O s i (obj (i + 1))) → (t : Start) → Fact (get_or s i 0) t → Means (O ∣ A ∣ Simple) s i (by_start t s i arr obj)
 by_start_lem s i arr obj f g Start.Array q = map_means (λ v x. right (left x)) (f q)
 by_start_lem s i arr obj f g Start.Object q = map_means (λ v. left) (g q)
 by_start_lem s i arr obj f g Start.Text q = map_means (λ v x. right (right (right (right x)))) (reads_means (byte_reads (eq_class 34) s i q) (text_means s (i + 1)))
@@ -488,8 +489,8 @@ flat (right (right x)) = x
 pub value_means : (d : ℕ) (s : List ℕ) (i : ℕ) → Means (Value d) s i (value_at d s i)
 unfolding value_at
 value_means zero s i =
-    let n : Means Simple s i (Bad i) = bad some_number.0 here (right (left some_number.1)) in
-    map_means (λ v. flat) (by_start_lem s i (λ j. Bad i) (λ j. Bad i) (λ q. n) (λ q. n) (start_of (get_or s i 0)) (start_fact (get_or s i 0)))
+    let n : Means Simple s i (refused i) = bad some_number.0 here (right (left some_number.1)) in
+    map_means (λ v. flat) (by_start_lem s i (λ j. refused i) (λ j. refused i) (λ q. n) (λ q. n) (start_of (get_or s i 0)) (start_fact (get_or s i 0)))
 value_means (suc d) s i =
     by_start_lem s i _ _ (λ q. map_means (λ v. bracketed) (reads_means (byte_reads (eq_class 91) s i q) (array_means (some_value d) s (value_at d s) (λ j. value_means d s j) (i + 1))))
     (λ q. map_means (λ v. bracketed) (reads_means (byte_reads (eq_class 123) s i q) (object_means (some_value d) s (value_at d s) (λ j. value_means d s j) (i + 1))))
@@ -506,24 +507,24 @@ pub text_means_of : (d : ℕ) (s : List ℕ) → Means (Text d) s 0 (text_of d s
 unfolding text_of
 text_means_of d s = reads_means (ws_reads s 0) (then_means _ (value_means d s (skip_at s 0)) some_star (λ e. stop_means s e))
 
-pub then_end : (r : Read) (g : ℕ → Read) (e : ℕ) → then r g ≡ End e → (m : ℕ) × (g m ≡ End e)
-then_end (End m) g e q = (m, q)
-then_end (Bad k) g e q = let z : ◌≡◌ {A = ℕ} 0 1 = cc in absurd (omega arith)
+pub then_end : (r : Result ℕ Bad) (g : ℕ → Result ℕ Bad) (e : ℕ) → r >>= g ≡ Ok e → (m : ℕ) × (g m ≡ Ok e)
+then_end (Ok m) g e q = (m, q)
+then_end (Err b) g e q = let z : ◌≡◌ {A = ℕ} 0 1 = cc in absurd (omega arith)
 
-pub stop_end : (s : List ℕ) (k e : ℕ) → stop s k ≡ End e → length s ≤ e
+pub stop_end : (s : List ℕ) (k e : ℕ) → stop s k ≡ Ok e → length s ≤ e
 unfolding stop
 stop_end s k e = go (ltb k (length s)) refl
   where
-    go : (b : Bool) → ltb k (length s) ≡ b → cond b (Bad k) (End k) ≡ End e → length s ≤ e
+    go : (b : Bool) → ltb k (length s) ≡ b → cond b (refused k) (Ok k) ≡ Ok e → length s ≤ e
     go true h q = let z : ◌≡◌ {A = ℕ} 0 1 = cc in absurd (omega arith)
     go false h q = let z : k ≡ e = cc in let y : length s ≤ k = ltb-false k (length s) h in omega arith
 
 -- what is taken is a JSON text
-pub sound : (d : ℕ) (s : List ℕ) (e : ℕ) → text_of d s ≡ End e → Text d s
+pub sound : (d : ℕ) (s : List ℕ) (e : ℕ) → text_of d s ≡ Ok e → Text d s
 unfolding text_of
 sound d s e q = go (subst (λ r. Means (Text d) s 0 r) q (text_means_of d s))
   where
-    go : Means (Text d) s 0 (End e) → Text d s
+    go : Means (Text d) s 0 (Ok e) → Text d s
     go (ended {v = v} x t) =
         let m = then_end (value_at d s (skip_at s 0)) (λ e. stop s (skip_at s e)) e q in
         let l : length s ≤ e = stop_end s _ e m.1 in
@@ -532,8 +533,8 @@ sound d s e q = go (subst (λ r. Means (Text d) s 0 r) q (text_means_of d s))
         rw y t
 
 -- what stands before the place of a refusal begins a JSON text
-pub viable : (d : ℕ) (s : List ℕ) (k : ℕ) → text_of d s ≡ Bad k → Begins d (take k s)
+pub viable : (d : ℕ) (s : List ℕ) (k : ℕ) → text_of d s ≡ refused k → Begins d (take k s)
 viable d s k q = go (subst (λ r. Means (Text d) s 0 r) q (text_means_of d s))
   where
-    go : Means (Text d) s 0 (Bad k) → Begins d (take k s)
+    go : Means (Text d) s 0 (refused k) → Begins d (take k s)
     go (bad {v = v} z x t) = (z, rw (seg_take x) t)

@@ -2,28 +2,27 @@
 // text and a place in it, and answers with a place.
 #![tactic(auto)]
 
+pub mod scan; // bytes that pass a test
 pub mod space; // white space, and the bytes that structure a text
 pub mod strings; // strings, with the UTF-8 in them
 pub mod numbers;
 pub mod reader; // values, and the whole text
 
-// What a reader answers: the place after what it read, or the place of the byte that it refuses.
-#[derive(Clone, Copy)]
-pub enum Read {
-    End(usize),
-    Bad(usize),
+// The byte that a reader refuses. What is taken is answered by the place after it.
+#[derive(Clone, Copy, Debug, PartialEq, Eq)]
+pub struct Bad {
+    pub at: usize,
 }
 
-// What follows an item of an array or an object: the end of it, a further item, or neither.
-#[derive(Clone, Copy)]
+// What follows an item of an array or an object: the end of it, or a further item.
+#[derive(Clone, Copy, Debug, PartialEq, Eq)]
 pub enum Next {
     Done(usize),
     More(usize),
-    Wrong(usize),
 }
 
 // What a byte can begin.
-#[derive(Clone, Copy)]
+#[derive(Clone, Copy, Debug, PartialEq, Eq)]
 pub enum Start {
     Array,
     Object,

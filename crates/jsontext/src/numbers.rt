@@ -1,97 +1,79 @@
 // Numbers (RFC 8259, section 6).
+#![tactic(auto, unfolding(text::specs::Bytes::between, crate::specs::Reading::minus_at, crate::specs::Reading::sign_at, crate::specs::Reading::int_at, crate::specs::Reading::fraction_at, crate::specs::Reading::is_e, crate::specs::Reading::exponent_at, crate::specs::Reading::number_at))]
+
 ghost use Rattle.std.specs.Prelude.{◌≡◌};
 ghost use Rattle.text.specs.Bytes.{is_digit};
 ghost use Rattle.jsontext.specs.Reading.{span_at, some_at, minus_at, sign_at, int_at, fraction_at, exponent_at, number_at};
 
-use super::Read;
+use super::Bad;
+use super::scan::{some, span};
 use text::bytes::{byte_at, is_between, is_digit};
 
 // The place of the first byte at or after `at` that is no digit.
 pub fn digits(s: &[u8], at: usize) -> usize
     ensures { result ≡ span_at is_digit s.now at }
 {
-    let mut i = at;
-    while i < s.len() {
-        if !is_digit(s[i]) {
-            return i;
-        }
-        i += 1;
-    }
-    i
+    span(s, at, is_digit)
 }
 
 // One digit or more.
-fn some_digits(s: &[u8], at: usize) -> Read
+fn some_digits(s: &[u8], at: usize) -> Result<usize, Bad>
     ensures { result ≡ some_at is_digit is_digit s.now at }
 {
-    if is_digit(byte_at(s, at)) {
-        return Read::End(digits(s, at + 1));
-    }
-    Read::Bad(at)
+    some(s, at, is_digit, is_digit)
 }
 
 fn minus(s: &[u8], at: usize) -> usize
     ensures { result ≡ minus_at s.now at }
 {
-    if byte_at(s, at) == b'-' {
-        return at + 1;
-    }
-    at
+    if byte_at(s, at) == b'-' { at + 1 } else { at }
 }
 
 fn sign(s: &[u8], at: usize) -> usize
     ensures { result ≡ sign_at s.now at }
 {
     if byte_at(s, at) == b'+' {
-        return at + 1;
+        at + 1
+    } else {
+        minus(s, at)
     }
-    minus(s, at)
 }
 
 // The whole part: no zero stands in front of other digits.
-fn int(s: &[u8], at: usize) -> Read
+fn int(s: &[u8], at: usize) -> Result<usize, Bad>
     ensures { result ≡ int_at s.now at }
 {
-    let b = byte_at(s, at);
-    if b == b'0' {
-        return Read::End(at + 1);
+    if byte_at(s, at) == b'0' {
+        Ok(at + 1)
+    } else {
+        some(s, at, |b| is_between(b, b'1', b'9'), is_digit)
     }
-    if is_between(b, b'1', b'9') {
-        return Read::End(digits(s, at + 1));
-    }
-    Read::Bad(at)
 }
 
-fn fraction(s: &[u8], at: usize) -> Read
+fn fraction(s: &[u8], at: usize) -> Result<usize, Bad>
     ensures { result ≡ fraction_at s.now at }
 {
     if byte_at(s, at) == b'.' {
-        return some_digits(s, at + 1);
+        some_digits(s, at + 1)
+    } else {
+        Ok(at)
     }
-    Read::End(at)
 }
 
-fn exponent(s: &[u8], at: usize) -> Read
+fn exponent(s: &[u8], at: usize) -> Result<usize, Bad>
     ensures { result ≡ exponent_at s.now at }
 {
-    let b = byte_at(s, at);
-    if b == b'e' {
-        return some_digits(s, sign(s, at + 1));
+    if matches!(byte_at(s, at), b'e' | b'E') {
+        some_digits(s, sign(s, at + 1))
+    } else {
+        Ok(at)
     }
-    if b == b'E' {
-        return some_digits(s, sign(s, at + 1));
-    }
-    Read::End(at)
 }
 
-pub fn number(s: &[u8], at: usize) -> Read
+pub fn number(s: &[u8], at: usize) -> Result<usize, Bad>
     ensures { result ≡ number_at s.now at }
 {
-    match int(s, minus(s, at)) {
-        Read::Bad(p) => Read::Bad(p),
-        Read::End(i) => match fraction(s, i) {
-            Read::Bad(p) => Read::Bad(p),
-            Read::End(j) => exponent(s, j),
-        },
-    }
+    let i = int(s, minus(s, at))?;
+    let j = fraction(s, i)?;
+    exponent(s, j)
 }

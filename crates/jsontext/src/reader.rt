@@ -1,14 +1,18 @@
 // Values and the whole text (RFC 8259, sections 2 to 5). `value`, `array` and `object` call each other; the depth that is
 // left falls with each bracket that is opened, and within one depth the loops fall by the bytes that are left.
+// `array` and `object` stay two functions with a loop each: the project's scope asks for this cycle of three.
+#![tactic(auto, using(crate::proofs::Nesting::nesting), unfolding(text::specs::Bytes::between, crate::specs::Reading::start_of, crate::specs::Reading::key_at))]
+
 ghost use Rattle.std.specs.Prelude.{◌≡◌};
-ghost use Rattle.jsontext.specs.Reading.{word_at, key_at, start_of, array_at, object_at, value_at};
+ghost use Rattle.jsontext.specs.Reading.{key_at, start_of, array_at, object_at, value_at};
 ghost use Rattle.jsontext.specs.Judged.{Answer};
 
 use super::numbers::number;
+use super::scan::word;
 use super::space::{follow, skip, token};
 use super::strings::string;
-use super::{Next, Read, Start};
-use text::bytes::{byte_at, is_digit};
+use super::{Bad, Next, Start};
+use text::bytes::byte_at;
 
 fn start_of(b: u8) -> Start
     ensures { result ≡ start_of b }
@@ -20,111 +24,60 @@ fn start_of(b: u8) -> Start
         b't' => Start::True,
         b'f' => Start::False,
         b'n' => Start::Null,
-        b'-' => Start::Number,
-        _ => {
-            if is_digit(b) {
-                return Start::Number;
-            }
-            Start::Nothing
-        }
+        b'-' | b'0'..=b'9' => Start::Number,
+        _ => Start::Nothing,
     }
-}
-
-// The bytes of `w`, which are not 0.
-fn word(s: &[u8], at: usize, w: &[u8]) -> Read
-    ensures { result ≡ word_at w.now s.now at }
-{
-    let mut i = at;
-    let mut n = 0;
-    while n < w.len() {
-        let b = byte_at(s, i);
-        if b == 0 {
-            return Read::Bad(i);
-        }
-        if b != w[n] {
-            return Read::Bad(i);
-        }
-        i += 1;
-        n += 1;
-    }
-    Read::End(i)
 }
 
 // A member's name, with its colon.
-pub fn key(s: &[u8], at: usize) -> Read
+pub fn key(s: &[u8], at: usize) -> Result<usize, Bad>
     ensures { result ≡ key_at s.now at }
 {
-    match token(s, at, b'"') {
-        Read::Bad(p) => Read::Bad(p),
-        Read::End(q) => match string(s, q) {
-            Read::Bad(p) => Read::Bad(p),
-            Read::End(e) => token(s, e, b':'),
-        },
-    }
+    let q = token(s, at, b'"')?;
+    let e = string(s, q)?;
+    token(s, e, b':')
 }
 
 // The rest of an array, after its bracket.
 #[cycle(array_object_value)]
-fn array(s: &[u8], at: usize, depth: usize) -> Read
+fn array(s: &[u8], at: usize, depth: usize) -> Result<usize, Bad>
     ensures { result ≡ array_at (value_at depth s.now) s.now at }
 {
-    if let Read::End(e) = token(s, at, b']') {
-        return Read::End(e);
+    if let Ok(e) = token(s, at, b']') {
+        return Ok(e);
     }
     let mut j = at;
     loop {
-        let i = skip(s, j);
-        match value(s, i, depth) {
-            Read::Bad(p) => {
-                return Read::Bad(p);
+        let e = value(s, skip(s, j), depth)?;
+        match follow(s, e, b']')? {
+            Next::Done(k) => {
+                return Ok(k);
             }
-            Read::End(e) => match follow(s, e, b']') {
-                Next::Done(k) => {
-                    return Read::End(k);
-                }
-                Next::Wrong(k) => {
-                    return Read::Bad(k);
-                }
-                Next::More(k) => {
-                    j = k;
-                }
-            },
+            Next::More(k) => {
+                j = k;
+            }
         }
     }
 }
 
 // The rest of an object, after its bracket.
 #[cycle(array_object_value)]
-fn object(s: &[u8], at: usize, depth: usize) -> Read
+fn object(s: &[u8], at: usize, depth: usize) -> Result<usize, Bad>
     ensures { result ≡ object_at (value_at depth s.now) s.now at }
 {
-    if let Read::End(e) = token(s, at, b'}') {
-        return Read::End(e);
+    if let Ok(e) = token(s, at, b'}') {
+        return Ok(e);
     }
     let mut j = at;
     loop {
-        match key(s, j) {
-            Read::Bad(p) => {
-                return Read::Bad(p);
+        let v = key(s, j)?;
+        let e = value(s, skip(s, v), depth)?;
+        match follow(s, e, b'}')? {
+            Next::Done(k) => {
+                return Ok(k);
             }
-            Read::End(v) => {
-                let i = skip(s, v);
-                match value(s, i, depth) {
-                    Read::Bad(p) => {
-                        return Read::Bad(p);
-                    }
-                    Read::End(e) => match follow(s, e, b'}') {
-                        Next::Done(k) => {
-                            return Read::End(k);
-                        }
-                        Next::Wrong(k) => {
-                            return Read::Bad(k);
-                        }
-                        Next::More(k) => {
-                            j = k;
-                        }
-                    },
-                }
+            Next::More(k) => {
+                j = k;
             }
         }
     }
@@ -132,48 +85,32 @@ fn object(s: &[u8], at: usize, depth: usize) -> Read
 
 // A value, in which arrays and objects are nested at most `depth` deep.
 #[cycle(array_object_value)]
-pub fn value(s: &[u8], at: usize, depth: usize) -> Read
+pub fn value(s: &[u8], at: usize, depth: usize) -> Result<usize, Bad>
     ensures { result ≡ value_at depth s.now at }
 {
-    if at >= s.len() {
-        return Read::Bad(at);
-    }
-    match start_of(s[at]) {
-        Start::Array => {
-            if depth == 0 {
-                return Read::Bad(at);
-            }
-            array(s, at + 1, depth - 1)
-        }
-        Start::Object => {
-            if depth == 0 {
-                return Read::Bad(at);
-            }
-            object(s, at + 1, depth - 1)
-        }
+    match start_of(byte_at(s, at)) {
+        Start::Array if depth > 0 => array(s, at + 1, depth - 1),
+        Start::Object if depth > 0 => object(s, at + 1, depth - 1),
         Start::Text => string(s, at + 1),
         Start::True => word(s, at, b"true"),
         Start::False => word(s, at, b"false"),
         Start::Null => word(s, at, b"null"),
         Start::Number => number(s, at),
-        Start::Nothing => Read::Bad(at),
+        Start::Array | Start::Object | Start::Nothing => Err(Bad { at }),
     }
 }
 
 // A whole text, nested at most `depth` deep. The answer is the text's length, or the place at which it stops to begin any
 // such text.
-pub fn whole_text(s: &[u8], depth: usize) -> Read
+pub fn whole_text(s: &[u8], depth: usize) -> Result<usize, Bad>
     ensures { Answer depth s.now result }
 {
     let at = skip(s, 0);
-    match value(s, at, depth) {
-        Read::Bad(p) => Read::Bad(p),
-        Read::End(e) => {
-            let k = skip(s, e);
-            if k < s.len() {
-                return Read::Bad(k);
-            }
-            Read::End(k)
-        }
+    let e = value(s, at, depth)?;
+    let k = skip(s, e);
+    if k < s.len() {
+        Err(Bad { at: k })
+    } else {
+        Ok(k)
     }
 }

@@ -1,8 +1,10 @@
 -- The answers of the two public calls as numbers, for C.
-use Rattle.std.specs.Prelude.{ℕ, ◌≡◌, List}
+use Rattle.std.specs.Prelude.{ℕ, ◌≡◌, List, Result, Ok, Err}
 use Rattle.flows.specs.declared.Numbers as numbers
 use Rattle.stored.specs.declared.answer.Verdict.{Verdict}
-use Rattle.stored.specs.declared.answer.Verdict.TheVariants.{NotTable, NotFlow, Accept, Drop}
+use Rattle.stored.specs.declared.answer.Verdict.TheVariants.{Accept, Drop}
+use Rattle.stored.specs.declared.answer.Refusal.{Refusal}
+use Rattle.stored.specs.declared.answer.Refusal.TheVariants.{NotTable, NotFlow}
 use Rattle.gateway.specs.Answer.{answer_number, line_count, answer_of, reply_after, work_after}
 
 -- the paper's number, the line count, and each byte lent
@@ -25,8 +27,8 @@ asked direction protocol opener address remote device =
     }
 
 -- a verdict as one number
-abbrev pub verdict_code : Verdict → ℕ
-verdict_code NotTable = 13
-verdict_code NotFlow = 14
-verdict_code Accept = 1
-verdict_code Drop = 0
+abbrev pub verdict_code : Result Verdict Refusal → ℕ
+verdict_code (Err NotTable) = 13
+verdict_code (Err NotFlow) = 14
+verdict_code (Ok Accept) = 1
+verdict_code (Ok Drop) = 0

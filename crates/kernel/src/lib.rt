@@ -1,13 +1,12 @@
 // The C boundary: include/mirokdeul.h says what each function does, in C's words.
-#![tactic(auto)]
+#![tactic(auto, using(crate::proofs::Laws::returning))]
 
 ghost use Rattle.std.specs.Prelude.{◌≡◌, length};
 ghost use Rattle.stored.specs.Stored.{verdict_of};
 ghost use Rattle.kernel.specs.Boundary.{BuildReturns, asked, verdict_code};
 
 use flows::Numbers;
-use gateway::Answer;
-use stored::answer::Verdict;
+use stored::answer::{Refusal, Verdict};
 
 // The answer's number; the line count goes to `count`.
 #[unsafe(no_mangle)]
@@ -21,13 +20,13 @@ pub extern "C" fn mirokdeul_build(
     ensures { BuildReturns file.now site.now (length reply.old) (length work.old) result reply.new work.new count.new }
 {
     match gateway::build(file, site, reply, work) {
-        Answer::Taken(n) => {
-            *count = n;
+        Ok(lines) => {
+            *count = lines;
             0
         }
-        Answer::Refused(why) => {
+        Err(why) => {
             *count = 0;
-            gateway::reason_number(why)
+            why.into()
         }
     }
 }
@@ -46,18 +45,18 @@ pub extern "C" fn mirokdeul_verdict(
     ensures { result ≡ verdict_code (verdict_of stored.now (asked direction protocol opener address remote device)) }
 {
     let flow = Numbers {
-        direction: direction,
+        direction,
         protocol: flows::Protocol(protocol),
-        opener: opener,
+        opener,
         address: flows::Address(address),
         remote: flows::RemotePort(remote),
         device: flows::DevicePort(device),
     };
     match gateway::verdict(stored, flow) {
-        Verdict::NotTable => 13,
-        Verdict::NotFlow => 14,
-        Verdict::Accept => 1,
-        Verdict::Drop => 0,
+        Ok(Verdict::Accept) => 1,
+        Ok(Verdict::Drop) => 0,
+        Err(Refusal::NotTable) => 13,
+        Err(Refusal::NotFlow) => 14,
     }
 }
 

@@ -1,5 +1,6 @@
 -- Laws of names that are all different: those so far are kept in rising order, and none of them stands among those to come.
 -- Assumes nothing.
+use Rattle.std.specs.Prelude.{None, Some, Err}
 use Prim.Native.Nat.{ℕ, ◌+◌, ◌≤◌, ◌<◌}
 use native.Mathlib.Omega.{arith}
 use mathlib.Core.Path.{◌≡◌, refl, sym, ◌∙◌}
@@ -10,14 +11,12 @@ use borrow.Author.Tests.{not-true}
 use Rattle.text.specs.Words.{same_bytes}
 use Rattle.text.proofs.Tests.{clash, and_left, and_right}
 use Rattle.text.proofs.WordLaws.{same_iff}
-use Rattle.values.specs.declared.Spot.TheVariants.{Free}
 use Rattle.values.specs.declared.Entry.{Entry}
 use Rattle.values.specs.declared.Entry.TheVariants.{Known, Kept, Full}
 use Rattle.values.specs.Decode.{bytes_at}
 use Rattle.values.specs.Names.{name_in, key_at, Rising, Spotted, Inserted, Entered, grown_of}
 use Rattle.values.proofs.Naming.{kept_all, kept_each, free_differ, rising_on, grown_room, entered_below}
 use Rattle.header.specs.Asked.{is_among}
-use Rattle.lists.specs.declared.names.Beside.TheVariants.{Twice, Once}
 use Rattle.lists.specs.Lists.{all_different}
 use Rattle.lists.specs.Names.{again_of}
 
@@ -66,11 +65,11 @@ refuted true f = absurd (f refl)
 refuted false f = refl
 
 -- which of the two it was
-pub twice_again : (f : Bool) (n : ℕ) → cond f Twice (Once n) ≡ Twice → f ≡ true
+pub twice_again : (f : Bool) (n : ℕ) → cond f None (Some n) ≡ None → f ≡ true
 twice_again true n e = refl
 twice_again false n e = absurd (let z : ◌≡◌ {A = ℕ} 0 1 = cc in omega arith)
 
-pub once_fresh : (f : Bool) (n m : ℕ) → cond f Twice (Once n) ≡ Once m → (f ≡ false) × (m ≡ n)
+pub once_fresh : (f : Bool) (n m : ℕ) → cond f None (Some n) ≡ Some m → (f ≡ false) × (m ≡ n)
 once_fresh true n m e = absurd (let z : ◌≡◌ {A = ℕ} 0 1 = cc in omega arith)
 once_fresh false n m e = (refl, cc)
 
@@ -85,7 +84,7 @@ module _ {whole : Bool} (s : List ℕ) (x j : ℕ) {a₀ : List ℕ} (a b : List
   different_again Kept e q = clash {b = false} q refl
   different_again Full e q = later_again q
 
-  after_kept : (p : ℕ) → Spotted s (bytes_at s x) a 0 hi (Free p) → (w : ℕ) → name_in w ≡ x → Inserted a b p hi w → (whole ≡ true → (all_different ns ≡ true) × Apart s b (hi + 1) ns) × (all_different ns ≡ true → Apart s b (hi + 1) ns → whole ≡ true)
+  after_kept : (p : ℕ) → Spotted s (bytes_at s x) a 0 hi (Err p) → (w : ℕ) → name_in w ≡ x → Inserted a b p hi w → (whole ≡ true → (all_different ns ≡ true) × Apart s b (hi + 1) ns) × (all_different ns ≡ true → Apart s b (hi + 1) ns → whole ≡ true)
   after_kept p sp y nm ins = (
     λ w.
         let u = h.there w in
@@ -96,7 +95,7 @@ module _ {whole : Bool} (s : List ℕ) (x j : ℕ) {a₀ : List ℕ} (a b : List
         h.back (different_whole _ ns w.1 q) (λ k l m. is_apart _ _ ns (free_differ s _ a 0 hi p sp k l m) (w.0 k l m)),
   )
 
-  after_full : b ≡ a → (p : ℕ) → Spotted s (bytes_at s x) a 0 hi (Free p) → is_among (bytes_at s x) ns ≡ false → (whole ≡ true → (all_different ns ≡ true) × Apart s b hi ns) × (all_different ns ≡ true → Apart s b hi ns → whole ≡ true)
+  after_full : b ≡ a → (p : ℕ) → Spotted s (bytes_at s x) a 0 hi (Err p) → is_among (bytes_at s x) ns ≡ false → (whole ≡ true → (all_different ns ≡ true) × Apart s b hi ns) × (all_different ns ≡ true → Apart s b hi ns → whole ≡ true)
   after_full z p sp n = rw z (
     λ w. let u = h.there w in ((different_parts _ ns u.0).1, λ k l m. (not_among _ _ ns (u.1 k l m)).1),
     λ q f. h.back (different_whole _ ns n q) (λ k l m. is_apart _ _ ns (free_differ s _ a 0 hi p sp k l m) (f k l m)),

@@ -1,4 +1,5 @@
 -- Laws of the lists of the file, gathered by their names. Assumes nothing.
+use Rattle.std.specs.Prelude.{Option, None, Some, Err, Result, Ok}
 use Prim.Native.Nat.{ℕ, ◌+◌, ◌≤◌, ◌<◌}
 use native.Mathlib.Omega.{arith}
 use mathlib.Core.Path.{◌≡◌, refl, sym, ap, subst, ◌∙◌}
@@ -11,23 +12,19 @@ use Rattle.text.specs.Ascii.{ascii}
 use Rattle.text.specs.Words.{same_bytes}
 use Rattle.text.proofs.Tests.{clash}
 use Rattle.text.proofs.WordLaws.{same_iff}
+use Rattle.jsontext.specs.declared.Bad.{Bad}
 use Rattle.jsontext.specs.declared.Next.{Next}
-use Rattle.jsontext.specs.declared.Next.TheVariants.{Done, More, Wrong}
+use Rattle.jsontext.specs.declared.Next.TheVariants.{Done, More}
 use Rattle.jsontext.specs.Reading.{is_space, span_at, element_at, value_at}
 use Rattle.jsontext.proofs.Runs.{past_is}
-use Rattle.values.specs.declared.Found.{Found}
-use Rattle.values.specs.declared.Found.TheVariants.{At, Missing}
 use Rattle.values.specs.declared.Entry.{Entry}
 use Rattle.values.specs.declared.Entry.TheVariants.{Known, Kept}
-use Rattle.values.specs.declared.Spot.TheVariants.{Free}
 use Rattle.values.specs.Decode.{bytes_at}
-use Rattle.values.specs.Tree.{Elements, no_more, some, elements_from, elements_after, items_from, tree_at, tree_of, lookup, seen}
+use Rattle.values.specs.Tree.{Elements, no_more, elements_from, elements_after, items_from, tree_at, tree_of, lookup, seen}
 use Rattle.values.specs.Rules.{first_with}
 use Rattle.values.specs.Names.{name_in, owner_in, key_at, Rising, Spotted, FoundAmong, Inserted, Entered}
 use Rattle.values.proofs.Naming.{kept_words, kept_each, free_differ, rising_on, grown_room}
 use Rattle.values.proofs.Walking.{elements_turn, element_after_done, element_after_wrong, element_after_more, element_less}
-use Rattle.lists.specs.declared.index.Index.{Index}
-use Rattle.lists.specs.declared.index.Index.TheVariants.{Upto, Without}
 use Rattle.lists.specs.Lists.{is_named, name_of, list_named, lists_of}
 use Rattle.lists.specs.Index.{Gathered, Onward, Indexed, above_of, Above}
 use Rattle.lists.proofs.Different.{refuted}
@@ -44,34 +41,34 @@ gathered_same {s} {es} b l f g =
       left = λ i h. g.left i (λ k m n q. h k m n (ap (λ (w : ℕ). bytes_at s (name_in w)) (f k m n) ∙ q));
     }
 
-pub indexed_same : (s : List ℕ) (es : Elements) (a b : List ℕ) (x : Index) → length b ≡ length a → ((k : ℕ) → 1555 ≤ k → get_or b k 0 ≡ get_or a k 0) → Indexed s es a x → Indexed s es b x
+pub indexed_same : (s : List ℕ) (es : Elements) (a b : List ℕ) (x : Option ℕ) → length b ≡ length a → ((k : ℕ) → 1555 ≤ k → get_or b k 0 ≡ get_or a k 0) → Indexed s es a x → Indexed s es b x
 unfolding Indexed
-indexed_same s es a b (Upto hi) l f g = let m = g.room in gathered_same b (omega arith) (λ k n o. f k n) g
-indexed_same s es a b Without l f g = tt
+indexed_same s es a b (Some hi) l f g = let m = g.room in gathered_same b (omega arith) (λ k n o. f k n) g
+indexed_same s es a b None l f g = tt
 
 -- the words above the names were lent
-above_names : (s : List ℕ) (es : Elements) (a : List ℕ) (x : Index) → Indexed s es a x → above_of x ≤ length a
+above_names : (s : List ℕ) (es : Elements) (a : List ℕ) (x : Option ℕ) → Indexed s es a x → above_of x ≤ length a
 unfolding Indexed
-above_names s es a (Upto hi) g = g.room
-above_names s es a Without g = omega arith
+above_names s es a (Some hi) g = g.room
+above_names s es a None g = omega arith
 
-lent : (s : List ℕ) (es : Elements) (a b : List ℕ) (x : Index) → Indexed s es a x → Indexed s es (take (above_of x) a ++ b) x
+lent : (s : List ℕ) (es : Elements) (a b : List ℕ) (x : Option ℕ) → Indexed s es a x → Indexed s es (take (above_of x) a ++ b) x
 unfolding Indexed
-lent s es a b (Upto hi) g =
+lent s es a b (Some hi) g =
     let m = g.room in
     let n = length-take-le hi a m in
     let o = length-append (take hi a) b in
     gathered_same (take hi a ++ b) (omega arith) (λ k u v. get_or-append (take hi a) b 0 k (omega arith) ∙ get_or-take hi a k 0 v) g
-lent s es a b Without g = tt
+lent s es a b None g = tt
 
-pub above_lent : (s : List ℕ) (es : Elements) (a : List ℕ) (x : Index) → Indexed s es a x → {n : ℕ} → Above x (length a) n → (b : List ℕ) → Indexed s es (take n a ++ b) x
+pub above_lent : (s : List ℕ) (es : Elements) (a : List ℕ) (x : Option ℕ) → Indexed s es a x → {n : ℕ} → Above x (length a) n → (b : List ℕ) → Indexed s es (take n a ++ b) x
 above_lent s es a x g e b = rw (e.is (above_names s es a x g)) (lent s es a b x g)
 
-module _ {x : Index} (n : ℕ) where
-  pub above_none : x ≡ Without → Above x n 0
+module _ {x : Option ℕ} (n : ℕ) where
+  pub above_none : x ≡ None → Above x n 0
   above_none q = record { room = omega arith; is = λ l. rw q }
 
-  module _ {hi : ℕ} (q : x ≡ Upto hi) where
+  module _ {hi : ℕ} (q : x ≡ Some hi) where
     pub above_end : n < hi → Above x n n
     above_end m = record { room = omega arith; is = λ l. absurd (let o : hi ≤ n = rw q at l in omega arith) }
 
@@ -91,11 +88,11 @@ module _ (s : List ℕ) (j : ℕ) {k : ℕ} (z : k ≡ span_at is_space s j) (w 
   unfolding first_with
   passed e = ap (first_with (is_named w)) (elements_turn 13 s j) ∙ rw (← z, first_with, ← e)
 
-  first_is : true ≡ is_named w (tree_at 13 s k) → first_with (is_named w) (elements_from 13 s j) ≡ some (tree_at 13 s k)
+  first_is : true ≡ is_named w (tree_at 13 s k) → first_with (is_named w) (elements_from 13 s j) ≡ Some (tree_at 13 s k)
   unfolding first_with
   first_is e = ap (first_with (is_named w)) (elements_turn 13 s j) ∙ rw (← z, first_with, ← e)
 
-unnamed : (s : List ℕ) (j : ℕ) {k : ℕ} → k ≡ span_at is_space s j → (a : List ℕ) (hi : ℕ) → ((i : ℕ) → false ≡ is_named (bytes_at s i) (tree_at 13 s k)) → Onward s j a hi a (Upto hi)
+unnamed : (s : List ℕ) (j : ℕ) {k : ℕ} → k ≡ span_at is_space s j → (a : List ℕ) (hi : ℕ) → ((i : ℕ) → false ≡ is_named (bytes_at s i) (tree_at 13 s k)) → Onward s j a hi a (Some hi)
 unfolding Onward
 unnamed s j z a hi n es g =
     record { from = g.from; room = g.room; rising = g.rising; known = g.known; left = λ i h. g.left i h ∙ passed s j z (bytes_at s i) (n i) }
@@ -103,12 +100,12 @@ unnamed s j z a hi n es g =
 unlike : (w n : List ℕ) → (w ≡ n → ⊥) → false ≡ same_bytes w n
 unlike w n f = refuted (same_bytes w n) (λ q. f ((same_iff w n).0 q))
 
-module _ (s : List ℕ) (j : ℕ) {k : ℕ} (z : k ≡ span_at is_space s j) (f : Found) (e : lookup (ascii "name") (tree_at 13 s k) ≡ seen (tree_at 12 s) f) where
-  pub onward_none : f ≡ Missing → (a : List ℕ) (hi : ℕ) → Onward s j a hi a (Upto hi)
+module _ (s : List ℕ) (j : ℕ) {k : ℕ} (z : k ≡ span_at is_space s j) (f : Option ℕ) (e : lookup (ascii "name") (tree_at 13 s k) ≡ seen (tree_at 12 s) f) where
+  pub onward_none : f ≡ None → (a : List ℕ) (hi : ℕ) → Onward s j a hi a (Some hi)
   onward_none q a hi = unnamed s j z a hi (λ i. is_named_none s k i e q)
 
-  module _ {p : ℕ} (q : f ≡ At p) {c : ℕ} (u : c ≡ get_or s p 0) where
-    pub onward_other : (c ≡ 34 → ⊥) → (a : List ℕ) (hi : ℕ) → Onward s j a hi a (Upto hi)
+  module _ {p : ℕ} (q : f ≡ Some p) {c : ℕ} (u : c ≡ get_or s p 0) where
+    pub onward_other : (c ≡ 34 → ⊥) → (a : List ℕ) (hi : ℕ) → Onward s j a hi a (Some hi)
     onward_other n a hi = unnamed s j z a hi (λ i. is_named_other s k i e q u n)
 
     module _ (y : c ≡ 34) (a b : List ℕ) (hi : ℕ) where
@@ -118,7 +115,7 @@ module _ (s : List ℕ) (j : ℕ) {k : ℕ} (z : k ≡ span_at is_space s j) (f 
       other_name : (i : ℕ) → (bytes_at s (p + 1) ≡ bytes_at s i → ⊥) → first_with (is_named (bytes_at s i)) (elements_from 13 s j) ≡ first_with (is_named (bytes_at s i)) (elements_after 13 s j)
       other_name i n = passed s j z (bytes_at s i) (unlike _ _ n ∙ named_by i)
 
-      pub onward_known : {r : Entry} → Entered s (p + 1) k a 1555 hi b r → r ≡ Known → Onward s j a hi b (Upto hi)
+      pub onward_known : {r : Entry} → Entered s (p + 1) k a 1555 hi b r → r ≡ Known → Onward s j a hi b (Some hi)
       unfolding Entered Onward
       onward_known {r} en w es g =
           let h = subst (Entered s (p + 1) k a 1555 hi b) w en in
@@ -130,16 +127,16 @@ module _ (s : List ℕ) (j : ℕ) {k : ℕ} (z : k ≡ span_at is_space s j) (f 
             left = λ i f. g.left i f ∙ other_name i (λ v. f h.1 h.2.0 h.2.1 (h.2.2 ∙ v));
           })
 
-      kept_on : (t : ℕ) → Spotted s (bytes_at s (p + 1)) a 1555 hi (Free t) → (w : ℕ) → name_in w ≡ p + 1 → owner_in w ≡ k → Inserted a b t hi w → (es : Elements) → Gathered s es a hi (elements_from 13 s j) → ((m : ℕ) → 1555 ≤ m → m < hi + 1 → first_with (is_named (key_at s b m)) es ≡ some (tree_at 13 s (owner_in (get_or b m 0)))) × ((i : ℕ) → ((m : ℕ) → 1555 ≤ m → m < hi + 1 → key_at s b m ≡ bytes_at s i → ⊥) → first_with (is_named (bytes_at s i)) es ≡ first_with (is_named (bytes_at s i)) (elements_after 13 s j))
+      kept_on : (t : ℕ) → Spotted s (bytes_at s (p + 1)) a 1555 hi (Err t) → (w : ℕ) → name_in w ≡ p + 1 → owner_in w ≡ k → Inserted a b t hi w → (es : Elements) → Gathered s es a hi (elements_from 13 s j) → ((m : ℕ) → 1555 ≤ m → m < hi + 1 → first_with (is_named (key_at s b m)) es ≡ Some (tree_at 13 s (owner_in (get_or b m 0)))) × ((i : ℕ) → ((m : ℕ) → 1555 ≤ m → m < hi + 1 → key_at s b m ≡ bytes_at s i → ⊥) → first_with (is_named (bytes_at s i)) es ≡ first_with (is_named (bytes_at s i)) (elements_after 13 s j))
       kept_on t sp w nm ow ins es g = (
-        kept_words a b hi t w ins 1555 sp.0 sp.1 (λ (v : ℕ). first_with (is_named (bytes_at s (name_in v))) es ≡ some (tree_at 13 s (owner_in v))) g.known
+        kept_words a b hi t w ins 1555 sp.0 sp.1 (λ (v : ℕ). first_with (is_named (bytes_at s (name_in v))) es ≡ Some (tree_at 13 s (owner_in v))) g.known
             (rw (nm, ow) (g.left (p + 1) (λ m l o v. clash ((same_iff _ _).1 v) (free_differ s _ a 1555 hi t sp m l o)) ∙ first_is s j z (bytes_at s (p + 1)) (sym ((same_iff (bytes_at s (p + 1)) (bytes_at s (p + 1))).1 refl) ∙ named_by (p + 1)))),
         λ i f.
             let o = kept_each s (p + 1) a b 1555 hi t sp w nm ins (λ (v : List ℕ). v ≡ bytes_at s i → ⊥) f in
             g.left i o.0 ∙ other_name i o.1,
       )
 
-      pub onward_kept : {r : Entry} → Entered s (p + 1) k a 1555 hi b r → r ≡ Kept → Onward s j a hi b (Upto (hi + 1))
+      pub onward_kept : {r : Entry} → Entered s (p + 1) k a 1555 hi b r → r ≡ Kept → Onward s j a hi b (Some (hi + 1))
       unfolding Entered Onward
       onward_kept {r} en w es g =
           let h = subst (Entered s (p + 1) k a 1555 hi b) w en in
@@ -153,54 +150,54 @@ module _ (s : List ℕ) (j : ℕ) {k : ℕ} (z : k ≡ span_at is_space s j) (f 
             left = o.1;
           }
 
-pub onward_without : (s : List ℕ) (j : ℕ) (a b : List ℕ) (hi : ℕ) → Onward s j a hi b Without
+pub onward_without : (s : List ℕ) (j : ℕ) (a b : List ℕ) (hi : ℕ) → Onward s j a hi b None
 unfolding Onward
 onward_without s j a b hi = tt
 
 pub ruleset adding = (rules, past_is, onward_none, onward_other, onward_known, onward_kept, onward_without)
 
 -- all of them, one after the other
-module _ (s : List ℕ) (es : Elements) (j : ℕ) {a : List ℕ} {hi : ℕ} (g : Gathered s es a hi (elements_from 13 s j)) (b : List ℕ) {r : Index} (o : Onward s j a hi b r) {top : ℕ} (q : r ≡ Upto top) {n : Next} (f : n ≡ element_at (value_at 13 s) s j) where
+module _ (s : List ℕ) (es : Elements) (j : ℕ) {a : List ℕ} {hi : ℕ} (g : Gathered s es a hi (elements_from 13 s j)) (b : List ℕ) {r : Option ℕ} (o : Onward s j a hi b r) {top : ℕ} (q : r ≡ Some top) {n : Result Next Bad} (f : n ≡ element_at (value_at 13 s) s j) where
   gathered_left : Gathered s es b top (elements_after 13 s j)
   unfolding Onward
   gathered_left = subst (Onward s j a hi b) q o es g
 
-  pub gathered_done : {k : ℕ} → n ≡ Done k → Indexed s es b (Upto top)
+  pub gathered_done : {m : Next} → n ≡ Ok m → {k : ℕ} → m ≡ Done k → Indexed s es b (Some top)
   unfolding Indexed
-  gathered_done u = rw (element_after_done 13 s j f u) at gathered_left
+  gathered_done u v = rw (element_after_done 13 s j f u v) at gathered_left
 
-  pub gathered_wrong : {k : ℕ} → n ≡ Wrong k → Indexed s es b (Upto top)
+  pub gathered_wrong : {k : Bad} → n ≡ Err k → Indexed s es b (Some top)
   unfolding Indexed
   gathered_wrong u = rw (element_after_wrong 13 s j f u) at gathered_left
 
-  pub gathered_on : {k : ℕ} → n ≡ More k → Gathered s es b top (elements_from 13 s k)
-  gathered_on u = rw (element_after_more 13 s j f u) at gathered_left
+  pub gathered_on : {m : Next} → n ≡ Ok m → {k : ℕ} → m ≡ More k → Gathered s es b top (elements_from 13 s k)
+  gathered_on u v = rw (element_after_more 13 s j f u v) at gathered_left
 
-pub without : (s : List ℕ) (es : Elements) (a : List ℕ) → Indexed s es a Without
+pub without : (s : List ℕ) (es : Elements) (a : List ℕ) → Indexed s es a None
 unfolding Indexed
 without s es a = tt
 
 -- the lists of the whole file
-module _ (s : List ℕ) {i : ℕ} (z : i ≡ span_at is_space s 0) {l : Found} (e : lists_of (tree_at 16 s i) ≡ items_from 13 s l) where
-  pub whole_none : l ≡ Missing → (a : List ℕ) → 1555 ≤ length a → Indexed s (lists_of (tree_of 16 s)) a (Upto 1555)
+module _ (s : List ℕ) {i : ℕ} (z : i ≡ span_at is_space s 0) {l : Option ℕ} (e : lists_of (tree_at 16 s i) ≡ items_from 13 s l) where
+  pub whole_none : l ≡ None → (a : List ℕ) → 1555 ≤ length a → Indexed s (lists_of (tree_of 16 s)) a (Some 1555)
   unfolding Indexed tree_of
   whole_none q a m = rw (← z, e, q) (gathered_start s no_more a m)
 
-  pub whole_some : {at : ℕ} → l ≡ At at → (b : List ℕ) (x : Index) → Indexed s (elements_from 13 s at) b x → Indexed s (lists_of (tree_of 16 s)) b x
+  pub whole_some : {at : ℕ} → l ≡ Some at → (b : List ℕ) (x : Option ℕ) → Indexed s (elements_from 13 s at) b x → Indexed s (lists_of (tree_of 16 s)) b x
   unfolding tree_of
   whole_some q b x g = rw (← z, e, q) g
 
 pub ruleset gathering = (rules, element_less, gathered_start, gathered_done, gathered_wrong, gathered_on, without, whole_none, whole_some)
 
 -- ## looking one up
-found_named : (s : List ℕ) (es : Elements) (a : List ℕ) (hi i : ℕ) → Gathered s es a hi no_more → (r : Found) → FoundAmong s (bytes_at s i) a 1555 hi r → first_with (is_named (bytes_at s i)) es ≡ seen (tree_at 13 s) r
+found_named : (s : List ℕ) (es : Elements) (a : List ℕ) (hi i : ℕ) → Gathered s es a hi no_more → (r : Option ℕ) → FoundAmong s (bytes_at s i) a 1555 hi r → first_with (is_named (bytes_at s i)) es ≡ seen (tree_at 13 s) r
 unfolding FoundAmong first_with
-found_named s es a hi i g (At p) h =
+found_named s es a hi i g (Some p) h =
     let o = h.1 in
     rw (h.2, ← o.2) (g.known h.0 o.0 o.1)
-found_named s es a hi i g Missing h = g.left i (λ k l m q. clash ((same_iff _ _).1 q) (free_differ s _ a 1555 hi h.0 h.1 k l m))
+found_named s es a hi i g None h = g.left i (λ k l m q. clash ((same_iff _ _).1 q) (free_differ s _ a 1555 hi h.0 h.1 k l m))
 
-module _ (s : List ℕ) (es : Elements) (a : List ℕ) {x : Index} (g : Indexed s es a x) {hi : ℕ} (q : x ≡ Upto hi) where
+module _ (s : List ℕ) (es : Elements) (a : List ℕ) {x : Option ℕ} (g : Indexed s es a x) {hi : ℕ} (q : x ≡ Some hi) where
   index_of : Gathered s es a hi no_more
   unfolding Indexed
   index_of = subst (Indexed s es a) q g
@@ -214,15 +211,15 @@ module _ (s : List ℕ) (es : Elements) (a : List ℕ) {x : Index} (g : Indexed 
   pub index_rising : Rising s a 1555 hi
   index_rising = index_of.rising
 
-  pub index_found : (n i : ℕ) → bytes_at s i ≡ name_of (tree_at 11 s n) → (r : Found) → FoundAmong s (bytes_at s i) a 1555 hi r → list_named es (tree_at 11 s n) ≡ seen (tree_at 13 s) r
+  pub index_found : (n i : ℕ) → bytes_at s i ≡ name_of (tree_at 11 s n) → (r : Option ℕ) → FoundAmong s (bytes_at s i) a 1555 hi r → list_named es (tree_at 11 s n) ≡ seen (tree_at 13 s) r
   unfolding list_named
   index_found n i e r h = rw (← e) (found_named s es a hi i index_of r h)
 
 pub ruleset looking = (rules, index_from, index_room, index_rising, index_found)
 
 -- the lists, by the places that functions were told
-module _ (s : List ℕ) (a : List ℕ) (x : Index) where
-  module _ (file : ℕ) (l : Found) (e : lists_of (tree_at 16 s file) ≡ items_from 13 s l) where
+module _ (s : List ℕ) (a : List ℕ) (x : Option ℕ) where
+  module _ (file : ℕ) (l : Option ℕ) (e : lists_of (tree_at 16 s file) ≡ items_from 13 s l) where
     pub index_inner : Indexed s (lists_of (tree_at 16 s file)) a x → Indexed s (items_from 13 s l) a x
     index_inner g = rw e at g
 

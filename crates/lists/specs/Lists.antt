@@ -1,10 +1,10 @@
 -- Number 8 (document 01, 'The MUD rules'): "policies, lists, types, names".
-use Rattle.std.specs.Prelude.{ℕ, List, [], ◌∷◌, ◌++◌, Bool, true, not, ◌&&◌, cond}
+use Rattle.std.specs.Prelude.{ℕ, List, [], ◌∷◌, ◌++◌, Bool, true, not, ◌&&◌, cond, Option}
 use Rattle.text.specs.Ascii.{ascii}
 use Rattle.text.specs.Words.{same_bytes}
 use Rattle.flows.specs.declared.Direction.{Direction}
 use Rattle.flows.specs.declared.Direction.TheVariants.{FromDevice, ToDevice}
-use Rattle.values.specs.Tree.{Json, Elements, no_more, element, items, Maybe, lookup, is_array, is_object}
+use Rattle.values.specs.Tree.{Json, Elements, no_more, element, items, lookup, is_array, is_object}
 use Rattle.values.specs.Rules.{must, may, inside, under, bytes_in, text, all, first_with}
 use Rattle.header.specs.Asked.{is_among, obeys}
 use Rattle.header.specs.declared.asked.Asked.TheVariants.{Text}
@@ -81,7 +81,7 @@ unfoldable pub list_ok : Json → Bool
 list_ok list = cond (is_ipv4 list) (nested_ok (ascii "aces") (ascii "ace") list) (has_type (ascii "ipv6-acl-type") list)
 
 -- "Every named list exists."
-unfoldable pub list_named : Elements → Json → Maybe
+unfoldable pub list_named : Elements → Json → Option Json
 list_named lists n = first_with (is_named (name_of n)) lists
 
 unfoldable pub named_ok : Elements → Json → Bool
@@ -104,7 +104,7 @@ to_list (element j es) = j ∷ to_list es
 unfoldable pub list_entries : Json → List Json
 list_entries list = cond (is_ipv4 list) (to_list (nested (ascii "aces") (ascii "ace") list)) []
 
-abbrev pub entries_in : Maybe → List Json
+abbrev pub entries_in : Option Json → List Json
 entries_in m = inside m list_entries []
 
 -- "lists in the order the policy names them"

@@ -1,4 +1,6 @@
 // Lists by their names.
+#![tactic(auto, using(crate::proofs::Laws::listing), unfolding(crate::specs::Lists::list_ok, crate::specs::Lists::list_named, crate::specs::Lists::named_ok, crate::specs::Lists::nested, values::specs::Rules::first_with))]
+
 ghost use Rattle.std.specs.Prelude.{◌≡◌, ◌-◌};
 ghost use Rattle.values.specs.Decode.{bytes_at};
 ghost use Rattle.values.specs.Tree.{tree_at, seen, elements_from, items_from};
@@ -6,118 +8,93 @@ ghost use Rattle.values.specs.Rules.{first_with};
 ghost use Rattle.lists.specs.Lists.{is_named, nested, has_type, list_ok, list_named, named_ok};
 ghost use Rattle.lists.specs.Index.{Indexed};
 
-use super::index::{Index, above};
+use super::elements::first_element;
+use super::index::above;
 use super::names::{is_nested, name_of};
-use jsontext::Next;
-use jsontext::space::skip;
 use text::bytes::byte_at;
-use values::Found;
 use values::names::find;
 use values::strings::{same_string, string_is};
-use values::walk::{first_item, inner, member, next_element};
+use values::walk::{first_item, inner, member};
 
 // Whether the element at a place has the name whose first character stands at `i`.
 fn is_named(s: &[u8], at: usize, i: usize) -> bool
     ensures { result ≡ is_named (bytes_at s.now i) (tree_at 13 s.now at) }
 {
-    let Found::At(p) = member(s, at, 13, b"name") else {
+    let Some(p) = member(s, at, 13, b"name") else {
         return false;
     };
-    if byte_at(s, p) != b'"' {
-        return false;
-    }
-    same_string(s, p + 1, i)
-}
-
-// The first of the lists from a place on that has the name.
-fn first_named(s: &[u8], at: usize, i: usize) -> Found
-    ensures { first_with (is_named (bytes_at s.now i)) (elements_from 13 s.now at) ≡ seen (tree_at 13 s.now) result }
-{
-    let mut j = at;
-    loop {
-        let k = skip(s, j);
-        if is_named(s, k, i) {
-            return Found::At(k);
-        }
-        match next_element(s, j, 13) {
-            Next::Done(_) => {
-                return Found::Missing;
-            }
-            Next::Wrong(_) => {
-                return Found::Missing;
-            }
-            Next::More(k) => {
-                j = k;
-            }
-        }
-    }
+    byte_at(s, p) == b'"' && same_string(s, p + 1, i)
 }
 
 // The list that an element of a policy names, by walking over the lists.
-fn walk_to(s: &[u8], lists: Found, n: usize) -> Found
+fn walk_to(s: &[u8], lists: Option<usize>, n: usize) -> Option<usize>
     ensures { list_named (items_from 13 s.now lists) (tree_at 11 s.now n) ≡ seen (tree_at 13 s.now) result }
 {
-    match lists {
-        Found::Missing => Found::Missing,
-        Found::At(at) => first_named(s, at, name_of(s, n, 11)),
-    }
+    let i = name_of(s, n, 11);
+    first_element(s, lists?, 13, |p| is_named(s, p, i))
 }
 
 // The list that an element of a policy names.
-pub fn list_of(s: &[u8], lists: Found, n: usize, area: &[u64], index: Index) -> Found
+pub fn list_of(
+    s: &[u8],
+    lists: Option<usize>,
+    n: usize,
+    area: &[u64],
+    index: Option<usize>,
+) -> Option<usize>
     requires { Indexed s.now (items_from 13 s.now lists) area.now index }
     ensures { list_named (items_from 13 s.now lists) (tree_at 11 s.now n) ≡ seen (tree_at 13 s.now) result }
 {
     match index {
-        Index::Upto(hi) => find(s, name_of(s, n, 11), area, 1555, hi),
-        Index::Without => walk_to(s, lists, n),
+        Some(hi) => find(s, name_of(s, n, 11), area, 1555, hi),
+        None => walk_to(s, lists, n),
     }
 }
 
 // The elements of the array `name` in the object `outer`, if there are any: where the first begins.
-pub fn nested_at(s: &[u8], at: usize, depth: usize, outer: &[u8], name: &[u8]) -> Found
+pub fn nested_at(s: &[u8], at: usize, depth: usize, outer: &[u8], name: &[u8]) -> Option<usize>
     ensures { nested outer.now name.now (tree_at depth s.now at) ≡ items_from (depth - 1 - 1 - 1) s.now result }
 {
-    let Found::At(o) = member(s, at, depth, outer) else {
-        return Found::Missing;
-    };
+    let o = member(s, at, depth, outer)?;
     let d = inner(depth);
-    let Found::At(p) = member(s, o, d, name) else {
-        return Found::Missing;
-    };
+    let p = member(s, o, d, name)?;
     first_item(s, p, inner(d))
 }
 
 pub fn has_type(s: &[u8], at: usize, kind: &[u8]) -> bool
     ensures { result ≡ has_type kind.now (tree_at 13 s.now at) }
 {
-    let Found::At(p) = member(s, at, 13, b"type") else {
+    let Some(p) = member(s, at, 13, b"type") else {
         return false;
     };
-    if byte_at(s, p) != b'"' {
-        return false;
-    }
-    string_is(s, p + 1, kind)
+    byte_at(s, p) == b'"' && string_is(s, p + 1, kind)
 }
 
 fn is_list(s: &[u8], at: usize, area: &mut [u64]) -> bool
     ensures { result ≡ list_ok (tree_at 13 s.now at) }
 {
     if has_type(s, at, b"ipv4-acl-type") {
-        return is_nested(s, at, 13, b"aces", b"ace", area);
+        is_nested(s, at, 13, b"aces", b"ace", area)
+    } else {
+        has_type(s, at, b"ipv6-acl-type")
     }
-    has_type(s, at, b"ipv6-acl-type")
 }
 
 // Whether an element of a policy names a list that there is, and that is one. What `area` held above the names is lost.
-pub fn names_list(s: &[u8], lists: Found, n: usize, area: &mut [u64], index: Index) -> bool
+pub fn names_list(
+    s: &[u8],
+    lists: Option<usize>,
+    n: usize,
+    area: &mut [u64],
+    index: Option<usize>,
+) -> bool
     requires { Indexed s.now (items_from 13 s.now lists) area.old index }
     ensures value { result ≡ named_ok (items_from 13 s.now lists) (tree_at 11 s.now n) }
     ensures indexed { Indexed s.now (items_from 13 s.now lists) area.new index }
 {
     match list_of(s, lists, n, area, index) {
-        Found::Missing => false,
-        Found::At(at) => {
+        None => false,
+        Some(at) => {
             let free = above(index, area.len());
             is_list(s, at, &mut area[free..])
         }

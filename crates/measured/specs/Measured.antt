@@ -1,14 +1,13 @@
 -- What the measured functions return, and what they leave in a reply.
-use Rattle.std.specs.Prelude.{ℕ, ◌≡◌, Bool, cond, ◌&&◌, List, eqb, leb, length}
+use Rattle.std.specs.Prelude.{ℕ, ◌≡◌, Bool, cond, ◌&&◌, Result, Ok, Err, List, eqb, leb, length}
 use Rattle.flows.specs.Table.{Table}
-use Rattle.jsontext.specs.declared.Read.{Read}
-use Rattle.jsontext.specs.declared.Read.TheVariants.{End, Bad}
+use Rattle.jsontext.specs.declared.Bad.{Bad}
 use Rattle.stored.specs.Text.{reply_of}
 
 -- 1 for a text that was read to its end
-unfoldable pub text_number : Read → ℕ
-text_number (End e) = 1
-text_number (Bad k) = 0
+unfoldable pub text_number : Result ℕ Bad → ℕ
+text_number (Ok e) = 1
+text_number (Err b) = 0
 
 -- a work buffer of its fixed size, and no more rules than it has room for
 unfoldable pub sized : ℕ → ℕ → Bool

@@ -1,5 +1,5 @@
 // Reading a JSON text, building lines from rules and writing them, each behind a C function of its own: for measuring, and no part of the library.
-#![tactic(auto)]
+#![tactic(auto, using(crate::proofs::Laws::measuring), unfolding(crate::specs::Measured::sized, crate::specs::Measured::all_sized, crate::specs::Measured::lines_number))]
 
 ghost use Rattle.std.specs.Prelude.{◌≡◌, ◌≤◌, length};
 ghost use Rattle.flows.specs.Table.{table_of};
@@ -9,8 +9,6 @@ ghost use Rattle.builder.specs.Encoding.{rules_of};
 ghost use Rattle.jsontext.specs.Reading.{text_of};
 ghost use Rattle.measured.specs.Measured.{text_number, sized, all_sized, lines_number, Written, Replied};
 
-use builder::Built;
-use jsontext::Read;
 use jsontext::reader::whole_text;
 
 // 1 for a JSON text that is nested at most 16 deep, else 0.
@@ -18,19 +16,13 @@ use jsontext::reader::whole_text;
 pub extern "C" fn measured_text(text: &[u8]) -> usize
     ensures { result ≡ text_number (text_of 16 text.now) }
 {
-    match whole_text(text, 16) {
-        Read::End(_) => 1,
-        Read::Bad(_) => 0,
-    }
+    usize::from(whole_text(text, 16).is_ok())
 }
 
 fn is_sized(work: usize, n: usize) -> bool
     ensures { result ≡ sized work n }
 {
-    if work == 16290 {
-        return n <= 66;
-    }
-    false
+    work == 16290 && n <= 66
 }
 
 // The number of lines of the table of n rules, 513 for more than 512; 1,000,000 for a buffer or a number of rules of no use.
@@ -41,19 +33,13 @@ pub extern "C" fn measured_lines(work: &mut [u64], n: usize) -> usize
     if !is_sized(work.len(), n) {
         return 1000000;
     }
-    match builder::build(work, n) {
-        Built::Lines(k) => k,
-        Built::Over => 513,
-    }
+    builder::build(work, n).unwrap_or(513)
 }
 
 fn are_sized(reply: usize, work: usize, n: usize) -> bool
     ensures { result ≡ all_sized reply work n }
 {
-    if reply == 36864 {
-        return is_sized(work, n);
-    }
-    false
+    reply == 36864 && is_sized(work, n)
 }
 
 // Builds, and writes the lines unless there are more than 512.
@@ -61,13 +47,11 @@ fn build_and_write(work: &mut [u64], n: usize, reply: &mut [u8]) -> usize
     requires { (length work.old ≡ 16290) × (n ≤ 66) × (length reply.old ≡ 36864) }
     ensures { Written (table_of widths (let_through (rules_of n work.old))) reply.old result reply.new }
 {
-    match builder::build(work, n) {
-        Built::Over => 513,
-        Built::Lines(k) => {
-            reply::write(work, k, reply);
-            k
-        }
-    }
+    let Some(k) = builder::build(work, n) else {
+        return 513;
+    };
+    reply::write(work, k, reply);
+    k
 }
 
 // The same number, and the lines as text; a reply of another size than 36,864 bytes gives 1,000,000 too. `reply` is left alone where no lines

@@ -1,12 +1,13 @@
 -- Laws of comparing the names of lines.
-use Prim.Native.Nat.{ℕ, zero, suc, ◌+◌, ◌-◌, ◌/◌, ◌%◌, ◌≤◌, ◌<◌}
+use Rattle.std.specs.Prelude.{Option, None, Some}
+use Prim.Native.Nat.{ℕ, ◌+◌, ◌-◌, ◌≤◌, ◌<◌}
 use native.Mathlib.Omega.{arith}
 use native.Mathlib.Numerals.{add-one}
 use mathlib.Core.Path.{◌≡◌, refl, sym, ap, ◌∙◌}
 use mathlib.Core.Bool.{Bool, true, false, cond}
 use mathlib.Core.List.{List, [], ◌∷◌}
 use lib.ListN.{length, take, drop, get_or, drop_of_length-le, length-drop}
-use lib.Seq.{drop-cons}
+use lib.Seq.{drop-cons, drop-drop}
 use lib.Dec.{eqb}
 use borrow.Author.Rules.{rules}
 use borrow.Author.Tests.{eq-eqb, ne_eqb, eqb-true}
@@ -14,20 +15,10 @@ use Rattle.text.specs.Words.{same_bytes}
 use Rattle.text.proofs.Tests.{by_test, clash}
 use Rattle.values.specs.declared.Piece.{Piece}
 use Rattle.values.specs.declared.Piece.TheVariants.{Stop, One, Two, Three, Four}
-use Rattle.values.specs.declared.Head.{Head}
-use Rattle.values.specs.declared.Head.TheVariants.{Nil, Is}
 use Rattle.values.specs.Decode.{piece_at, before, bytes_at, first_of, rest_of}
 use Rattle.values.proofs.Decoding.{string_turn}
 use Rattle.values.proofs.Comparing.{first_nil, first_is}
-use Rattle.site.specs.Line.{part}
 use Rattle.site.specs.Url.{ends_authority, until_end, authority_of}
-use Rattle.site.proofs.Laws.{ends_slash, ends_question, ends_hash}
-use Rattle.site.specs.declared.lines.Kind.{Kind}
-use Rattle.naming.specs.Named.{kind_number}
-use Rattle.naming.specs.Masks.{names_at}
-use Rattle.naming.specs.Wanted.{test_of}
-use Rattle.naming.specs.declared.wanted.Wanted.{Wanted}
-use Rattle.naming.specs.declared.wanted.Wanted.TheVariants.{Host, Class, Named, Mine, Local, Model, Maker, Kin}
 
 -- ## the authority of a URL
 until_part : (xs : List ℕ) → take (length (until_end xs)) xs ≡ until_end xs
@@ -64,36 +55,27 @@ rest_drop s (Two a b n) = refl
 rest_drop s (Three a b c n) = refl
 rest_drop s (Four a b c d n) = refl
 
-drop_one : (n : ℕ) (l : List ℕ) → 0 < n → drop (n - 1) (drop 1 l) ≡ drop n l
-drop_one zero l h = absurd (omega arith)
-drop_one (suc n) [] h = let k : 0 ≤ suc n - 1 = omega arith in drop_of_length-le [] k
-drop_one (suc n) (x ∷ l) h = let z : suc n - 1 ≡ n = omega arith in ap (λ k. drop k l) z
-
 module _ (s : List ℕ) (url : ℕ) (p : Piece) where
-  pub scheme_start : p ≡ piece_at s url → drop 8 (before p (bytes_at s)) ≡ drop 8 (bytes_at s url)
-  scheme_start e = ap (drop 8) (ap (λ (q : Piece). before q (bytes_at s)) e ∙ sym (string_turn s url))
+  pub scheme_start : p ≡ piece_at s url → before p (bytes_at s) ≡ drop 0 (bytes_at s url)
+  scheme_start e = ap (λ (q : Piece). before q (bytes_at s)) e ∙ sym (string_turn s url)
 
-  module _ (n : ℕ) (e : drop n (before p (bytes_at s)) ≡ drop 8 (bytes_at s url)) where
-    pub scheme_more : 0 < n → {q : Piece} → q ≡ rest_of s p → drop (n - 1) (before q (bytes_at s)) ≡ drop 8 (bytes_at s url)
-    scheme_more h f = rw (f, rest_drop s p) (drop_one n (before p (bytes_at s)) h ∙ e)
-
-    pub scheme_end : n ≤ 0 → before p (bytes_at s) ≡ drop 8 (bytes_at s url)
-    scheme_end h = let z : n ≡ 0 = omega arith in rw z at e
+  pub scheme_more : (n : ℕ) → before p (bytes_at s) ≡ drop n (bytes_at s url) → {q : Piece} → q ≡ rest_of s p → before q (bytes_at s) ≡ drop (n + 1) (bytes_at s url)
+  scheme_more n e f = rw (f, rest_drop s p, e) (drop-drop 1 n (bytes_at s url))
 
 pub authority_from_lem : (s w : List ℕ) (url : ℕ) (p : Piece) → before p (bytes_at s) ≡ drop 8 (bytes_at s url) → same_bytes (authority_of (bytes_at s url)) w ≡ same_bytes (until_end (before p (bytes_at s))) (drop 0 w)
 unfolding authority_of
 authority_from_lem s w url p e = rw e
 
-module _ (s w : List ℕ) (p : Piece) (n : ℕ) {t : Bool} (inv : t ≡ same_bytes (until_end (before p (bytes_at s))) (drop n w)) {h : Head} (e : h ≡ first_of p) where
-  pub authority_short : n < length w → h ≡ Nil → false ≡ t
+module _ (s w : List ℕ) (p : Piece) (n : ℕ) {t : Bool} (inv : t ≡ same_bytes (until_end (before p (bytes_at s))) (drop n w)) {h : Option ℕ} (e : h ≡ first_of p) where
+  pub authority_short : n < length w → h ≡ None → false ≡ t
   unfolding until_end
   authority_short l q = sym (rw (first_nil s p (sym e ∙ q), drop-cons w n 0 l) at inv)
 
-  pub authority_end : length w ≤ n → h ≡ Nil → true ≡ t
+  pub authority_end : length w ≤ n → h ≡ None → true ≡ t
   unfolding until_end
   authority_end l q = sym (rw (first_nil s p (sym e ∙ q), drop_of_length-le w l) at inv)
 
-  module _ {a : ℕ} (q : h ≡ Is a) {b : Bool} (z : b ≡ ends_authority a) where
+  module _ {a : ℕ} (q : h ≡ Some a) {b : Bool} (z : b ≡ ends_authority a) where
     pub authority_stop : n < length w → b ≡ true → false ≡ t
     unfolding until_end
     authority_stop l y = sym (rw (first_is s p a (sym e ∙ q), until_end, ← z, y, drop-cons w n 0 l) at inv)
@@ -119,48 +101,10 @@ eqb_sym x y =
     by_test (eqb x y) (λ e. e ∙ sym (eq-eqb y x (sym (eqb-true x y e))))
     (λ e. e ∙ sym (ne_eqb y x (λ q. clash (eq-eqb x y (sym q)) e)))
 
-same_sym : (a b : List ℕ) → same_bytes a b ≡ same_bytes b a
+pub same_sym : (a b : List ℕ) → same_bytes a b ≡ same_bytes b a
 same_sym [] [] = refl
 same_sym [] (y ∷ b) = refl
 same_sym (x ∷ a) [] = refl
 same_sym (x ∷ a) (y ∷ b) = rw (eqb_sym x y, same_sym a b)
 
-module _ (text : List ℕ) (w : Wanted) (n : List ℕ) where
-  pub wants_local : w ≡ Local → true ≡ test_of text w n
-  wants_local q = rw q
-
-  module _ {r : Bool} where
-    pub wants_named : w ≡ Named → r ≡ same_bytes n text → r ≡ test_of text w n
-    wants_named q h = rw q h
-
-    module _ {at : ℕ} where
-      module _ (h : r ≡ same_bytes (bytes_at text at) n) where
-        pub wants_host : w ≡ Host at → r ≡ test_of text w n
-        wants_host q = rw q (h ∙ same_sym (bytes_at text at) n)
-
-        pub wants_class : w ≡ Class at → r ≡ test_of text w n
-        wants_class q = rw q (h ∙ same_sym (bytes_at text at) n)
-
-        pub wants_mine : w ≡ Mine at → r ≡ test_of text w n
-        wants_mine q = rw q (h ∙ same_sym (bytes_at text at) n)
-
-        pub wants_model : w ≡ Model at → r ≡ test_of text w n
-        wants_model q = rw q (h ∙ same_sym (bytes_at text at) n)
-
-      module _ {a : List ℕ} (e : a ≡ authority_of n) where
-        pub wants_maker : w ≡ Maker at → r ≡ same_bytes (bytes_at text at) a → r ≡ test_of text w n
-        wants_maker q h = rw q (h ∙ rw e (same_sym (bytes_at text at) (authority_of n)))
-
-        pub wants_kin : w ≡ Kin at → r ≡ same_bytes (authority_of (bytes_at text at)) a → r ≡ test_of text w n
-        wants_kin q h = rw q (h ∙ rw e (same_sym (authority_of (bytes_at text at)) (authority_of n)))
-
-module _ (k : Kind) (test : List ℕ → Bool) (site : List ℕ) (w : ℕ) {m : Kind} (q : m ≡ k) {b : ℕ} (f : b ≡ kind_number m) where
-  pub names_not : (w / 4294967296 ≡ b → ⊥) → false ≡ names_at k test site w
-  unfolding names_at
-  names_not n = rw (ne_eqb (w / 4294967296) (kind_number k) (λ z. n (z ∙ ap kind_number (sym q) ∙ sym f)))
-
-  pub names_is : w / 4294967296 ≡ b → {r : Bool} → r ≡ test (part (w / 65536 % 65536) (w % 65536) site) → r ≡ names_at k test site w
-  unfolding names_at
-  names_is y h = rw (eq-eqb (w / 4294967296) (kind_number k) (y ∙ f ∙ ap kind_number q)) h
-
-pub ruleset wanting = (rules, ends_slash, ends_question, ends_hash, authority_none, authority_is, authority_in, scheme_start, scheme_more, scheme_end, authority_from_lem, authority_short, authority_end, authority_stop, authority_last, authority_not, authority_more, wants_local, wants_named, wants_host, wants_class, wants_mine, wants_model, wants_maker, wants_kin, names_not, names_is)
+pub ruleset wanting = (rules, same_sym, authority_none, authority_is, authority_in, scheme_start, scheme_more, authority_from_lem, authority_short, authority_end, authority_stop, authority_last, authority_not, authority_more)

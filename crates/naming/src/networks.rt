@@ -1,47 +1,68 @@
-// The site's lines, as words.
-ghost use Rattle.std.specs.Prelude.{◌≡◌, ◌++◌, ◌≤◌, ◌+◌, ◌*◌, length, drop};
-ghost use Rattle.site.specs.Site.{judged};
-ghost use Rattle.site.specs.declared.table.Judged.TheVariants.{Sound};
-ghost use Rattle.naming.specs.Masks.{place_word, network_words, PlacesOf};
+// The site's lines, as words and places.
+#![tactic(auto, using(crate::proofs::Masking::masking))]
 
-use crate::wanted::kind_number;
-use site::lines::{Found, SiteLine, line_at};
+ghost use Rattle.std.specs.Prelude.{ℕ, List, Ok, ◌≡◌, ◌++◌, ◌≤◌, ◌+◌, ◌*◌, length, drop};
+ghost use Rattle.site.specs.Site.{judged};
+ghost use Rattle.naming.specs.Masks.{place_of, network_words, PlacesOf};
+
+use site::lines::{Kind, SiteLine, line_at};
+use std::marker::Model;
+
+// Where the name of a line stands in the site table, and of which kind it is.
+#[derive(Clone, Copy)]
+pub struct Place {
+    pub kind: Kind,
+    pub name: u16,
+    pub end: u16,
+}
+
+// A sound site table, with the places of its names beside it, as `load` leaves them. In contracts it is its bytes.
+#[derive(Drop)]
+pub struct Site<'a> {
+    pub text: &'a [u8],
+    pub places: &'a [Option<Place>; 64],
+}
+
+impl<'a> Model for Site<'a> {
+    ghost Value = { List ℕ };
+
+    ghost view = { λ s. s.text.now };
+
+    ghost invariant = { λ s. PlacesOf s.text.now s.places.now };
+}
 
 fn word(low: u32, high: u32) -> u64
     ensures { result ≡ low * 4294967296 + high }
 {
-    low as u64 * 4294967296 + high as u64
+    u64::from(low) * 4294967296 + u64::from(high)
 }
 
-fn place_word(l: SiteLine) -> u64
+fn place_of(l: SiteLine) -> Place
     requires { (l.name ≤ 8192) × (l.end ≤ 8192) }
-    ensures { result ≡ place_word l }
+    ensures { result ≡ place_of l }
 {
-    let kind = l.kind;
-    kind_number(kind) * 4294967296 + l.name as u64 * 65536 + l.end as u64
+    Place {
+        kind: l.kind,
+        name: l.name as u16,
+        end: l.end as u16,
+    }
 }
 
 // The networks, and where the names stand, so that a name is found without reading the lines again.
-pub fn load(site: &[u8], work: &mut [u64], places: &mut [u64])
-    requires { (judged site.now ≡ Sound) × (64 ≤ length work.old) × (length places.old ≡ 64) }
+pub fn load(site: &[u8], work: &mut [u64], places: &mut [Option<Place>; 64])
+    requires { (judged site.now ≡ Ok tt) × (64 ≤ length work.old) }
     ensures work_after { work.new ≡ network_words site.now ++ drop 64 work.old }
     ensures places_of { PlacesOf site.now places.new }
 {
     let mut at = 0;
-    let mut j = 0;
-    while j < 64 {
-        let i = j;
-        j += 1;
-        match line_at(site, at) {
-            Found::Malformed => {
-                work[i] = 0;
-                places[i] = 0;
-            }
-            Found::Line(l) => {
-                work[i] = word(l.low, l.high);
-                places[i] = place_word(l);
-                at = l.after;
-            }
-        }
+    for i in 0..64 {
+        let Some(l) = line_at(site, at) else {
+            work[i] = 0;
+            places[i] = None;
+            continue;
+        };
+        work[i] = word(l.low, l.high);
+        places[i] = Some(place_of(l));
+        at = l.after;
     }
 }

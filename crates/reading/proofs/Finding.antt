@@ -1,4 +1,5 @@
 -- Laws of finding lists by their names while entries are read: the names stand above the words that are written. Assumes nothing.
+use Rattle.std.specs.Prelude.{Option}
 use Prim.Native.Nat.{ℕ, suc, ◌+◌, ◌*◌, ◌-◌, ◌≤◌}
 use native.Mathlib.Omega.{arith}
 use mathlib.Core.Path.{◌≡◌, refl, sym, ap, ◌∙◌}
@@ -10,7 +11,6 @@ use borrow.Author.Tests.{ltb-true}
 use Rattle.text.proofs.Tests.{by_test}
 use Rattle.flows.specs.declared.Direction.{Direction}
 use Rattle.values.specs.Tree.{Json, Elements}
-use Rattle.lists.specs.declared.index.Index.{Index}
 use Rattle.lists.specs.Index.{Indexed}
 use Rattle.lists.proofs.Gathering.{indexed_same, index_file, index_inner}
 use Rattle.naming.specs.Masks.{network_words}
@@ -33,7 +33,7 @@ put_above d site url (e ∷ es) n w k h =
     put_above d site url es (more n) (put_at n (rule_words d site url e) w) k h
     ∙ by_test (ltb n 64) (λ q. rw q (sets_above w (169 + 21 * n) (rule_words d site url e) k (omega (arith, ltb-true n 64 q, rule_long d site url e)))) (λ q. rw q)
 
-module _ (s : List ℕ) (lists : Elements) (x : Index) where
+module _ (s : List ℕ) (lists : Elements) (x : Option ℕ) where
   pub index_walked : {d : Direction} {site url : List ℕ} {es : List Json} {t r : Tally} {w m : List ℕ} → Walked d site url es t w r m → Indexed s lists w x → Indexed s lists m x
   index_walked {d} {site} {url} {es} {t} {r} {w} {m} a g =
       indexed_same s lists w m x (ap length a.words ∙ put_long t.count (rows_of d site url es) w) (λ k l. ap (λ (y : List ℕ). get_or y k 0) a.words ∙ put_above d site url es t.count w k l) g

@@ -9,6 +9,7 @@ use lib.Dec.{ltb}
 use lib.ListN.{length, take, drop, set, length-append, length-drop, length-map, take-append-drop}
 use lib.Seq.{sets, sets-eq, length-sets, take-append_seam, take-set-le, take-set-lt, drop-set-add, length-take-le}
 use borrow.Author.Tests.{lt-ltb}
+use Rattle.std.proofs.lemmas.List.{take-take}
 use Rattle.text.proofs.Tests.{by_test}
 use Rattle.flows.specs.Rules.{Rule, rule}
 use Rattle.flows.specs.declared.Direction.{Direction}
@@ -17,7 +18,7 @@ use Rattle.values.specs.Tree.{Json}
 use Rattle.lists.specs.Lists.{entries_of}
 use Rattle.site.specs.Site.{lines}
 use Rattle.naming.specs.Masks.{network_word, network_words}
-use Rattle.naming.proofs.Masking.{words_long}
+use Rattle.naming.proofs.Masking.{lines_long}
 use Rattle.builder.specs.Encoding.{box_of, accepting, rules_from, rules_of}
 use Rattle.rules.specs.Meaning.{url_of}
 use Rattle.rules.specs.Read.{entries_read}
@@ -134,7 +135,7 @@ module _ (d : Direction) (site url : List ℕ) where
 -- ## the networks in front
 pub networks_long : (site : List ℕ) → length (network_words site) ≡ 64
 unfolding network_words
-networks_long site = words_long network_word 64 (lines site 0)
+networks_long site = lines_long 0 network_word 64 (lines site 0)
 
 put_front : (n k : ℕ) (rows : List (List ℕ)) (w : List ℕ) → n ≤ 169 → take n (put_all k rows w) ≡ take n w
 unfolding put_all put_at
@@ -259,15 +260,9 @@ module _ (file : Json) (site w : List ℕ) (few : entries_read file ≤ 64) (lon
 
   networks_kept : take 64 (take 1555 w₄) ≡ network_words site
   networks_kept =
-      take_less 64 1555 w₄ (omega arith) ∙ take_sets 64 w₃ (169 + 21 * n + 21) ntp (omega arith) ∙ take_sets 64 w₂ (169 + 21 * n) dns (omega arith)
+      take-take 64 1555 w₄ (omega arith) ∙ take_sets 64 w₃ (169 + 21 * n + 21) ntp (omega arith) ∙ take_sets 64 w₂ (169 + 21 * n) dns (omega arith)
       ∙ put_front 64 (length from) rows_to w₁ (omega arith) ∙ put_front 64 0 rows_from w₀ (omega arith)
       ∙ ap (λ (k : ℕ). take k w₀) (sym (networks_long site)) ∙ take-append_seam (network_words site) (drop 64 w)
-    where
-      take_less : (i j : ℕ) (l : List ℕ) → i ≤ j → take i (take j l) ≡ take i l
-      take_less zero j l h = refl
-      take_less (suc i) zero l h = absurd (omega arith)
-      take_less (suc i) (suc j) [] h = refl
-      take_less (suc i) (suc j) (x ∷ l) h = ap (λ (r : List ℕ). x ∷ r) (take_less i j l (omega arith))
 
   -- THE WORK BUFFER HOLDS THE RULES OF THE FILE, and nothing else matters of what it held
   pub rules_held : rules_of (entries_read file + 2) (words_for site file w) ≡ rules_for file site

@@ -1,16 +1,19 @@
 -- The lines that `build` left are those of the table, and fit. Assumes nothing.
-use Prim.Native.Nat.{ℕ, suc, ◌+◌, ◌*◌, ◌<◌}
+use Prim.Native.Nat.{ℕ, suc, ◌+◌, ◌*◌, ◌≤◌, ◌<◌}
 use native.Mathlib.Nat.{zero-add, add-zero}
 use native.Mathlib.Omega.{arith}
 use mathlib.Core.Path.{◌≡◌, refl, ap, ap₂, sym, ◌∙◌, subst}
 use mathlib.Core.List.{List, [], ◌∷◌}
+use Rattle.std.specs.Prelude.{Option, Some}
 use lib.ListN.{length, take, drop, get_or}
 use Rattle.flows.specs.Table.{◌to◌, Line, Table, Set, table_of}
 use Rattle.flows.specs.Flow.{widths}
 use Rattle.flows.specs.Canonical.{LineIn}
 use Rattle.flows.proofs.Stored.{table_lines}
 use Rattle.builder.specs.Encoding.{table_words}
+use Rattle.builder.specs.Promise.{BuiltIn}
 use Rattle.builder.proofs.Reading.{line_read}
+use Rattle.builder.proofs.Turns.{lines_of_lem}
 use Rattle.stored.specs.Line.{ranges}
 use Rattle.stored.specs.Words.{Fits}
 use Rattle.stored.proofs.Spelling.{Read-as, as_read}
@@ -44,3 +47,14 @@ built_lines S w e = lines_are w 0 (table_of widths S) (table_lines widths S) (λ
 
 pub built_fits : (S : Set) (w : List ℕ) → take (3 * length (table_of widths S)) (drop 7071 w) ≡ table_words 0 (table_of widths S) → Fits (lines_in (length (table_of widths S)) w)
 built_fits S w e = subst Fits (sym (built_lines S w e)) (table_lines widths S)
+
+-- the same of what `build` returned, k lines
+module _ (S : Set) {w : List ℕ} {r : Option ℕ} {k : ℕ} (b : BuiltIn (table_of widths S) w r) (e : r ≡ Some k) where
+  pub built_count : (length (table_of widths S) ≡ k) × (length (table_of widths S) ≤ 512)
+  built_count = lines_of_lem (table_of widths S) k r b.answer e
+
+  pub built_are : lines_in k w ≡ table_of widths S
+  built_are = let q = built_count in ap (λ (n : ℕ). lines_in n w) (sym q.0) ∙ built_lines S w (b.held q.1)
+
+  pub built_fit : Fits (lines_in k w)
+  built_fit = let q = built_count in subst (λ (n : ℕ). Fits (lines_in n w)) q.0 (built_fits S w (b.held q.1))

@@ -1,5 +1,5 @@
 // The reply of a table that `build` left in the work buffer: its lines as text, then zeros.
-#![tactic(auto)]
+#![tactic(auto, using(crate::proofs::Putting::putting))]
 
 ghost use Rattle.std.specs.Prelude.{◌≡◌, ◌≤◌, ◌<◌, length};
 ghost use Rattle.std.proofs.lemmas.List.Edits.{sets};
@@ -11,7 +11,6 @@ ghost use Rattle.reply.specs.Lines.{line_in, lines_in};
 use builder::table::range;
 use stored::lines::Line;
 use stored::write::put_line;
-use text::written;
 
 fn read_line(work: &[u64], i: usize) -> Line
     requires { (i < 512) × (16290 ≤ length work.now) }
@@ -32,10 +31,8 @@ fn put_lines(buf: &mut [u8], work: &[u64], n: usize)
     ensures { buf.new ≡ sets buf.old 0 (table_text (lines_in n work.now)) }
 {
     let mut at = 0;
-    let mut i = 0;
-    while i < n {
+    for i in 0..n {
         at = put_line(buf, at, read_line(work, i));
-        i += 1;
     }
 }
 
@@ -44,6 +41,6 @@ pub fn write(work: &[u64], n: usize, reply: &mut [u8])
     requires { (length reply.old ≡ 36864) × (n ≤ 512) × (16290 ≤ length work.now) × Fits (lines_in n work.now) }
     ensures { reply.new ≡ reply_of (lines_in n work.now) }
 {
-    written::clear_bytes(reply);
+    reply.fill(0);
     put_lines(reply, work, n);
 }

@@ -1,4 +1,5 @@
 -- A port object's ranges hold exactly the ports that it matches.
+use Rattle.std.specs.Prelude.{Option, None, Some}
 use Prim.Native.Nat.{ℕ, ◌+◌, ◌-◌, ◌≤◌, ◌<◌}
 use native.Mathlib.Omega.{arith}
 use mathlib.Core.Path.{◌≡◌, refl, sym, ap, ◌∙◌}
@@ -13,9 +14,7 @@ use Rattle.text.proofs.Tests.{by_test, and_left, and_right, split, or_split, cla
 use Rattle.flows.specs.Table.{in_range}
 use Rattle.flows.specs.Rules.{in_some}
 use Rattle.flows.proofs.Runs.{in_yes, in_low, in_high}
-use Rattle.values.specs.declared.Count.{Count}
-use Rattle.values.specs.declared.Count.TheVariants.{Is, Not}
-use Rattle.values.specs.Tree.{Json, Maybe, none, some, lookup, count_of}
+use Rattle.values.specs.Tree.{Json, lookup, count_of}
 use Rattle.values.specs.Rules.{must, may, within}
 use Rattle.header.specs.Asked.{obeys}
 use Rattle.header.specs.declared.asked.Asked.TheVariants.{Integer, Spelt, Nothing}
@@ -26,28 +25,28 @@ use Rattle.rules.specs.Ports.{port_number, one_range, other_than, by_operator, p
 use Rattle.rules.specs.Words.{ranges_of}
 
 -- ## what a rule that holds says
-pub record There (m : Maybe) (f : Json → Bool) : Type 0 where
+pub record There (m : Option Json) (f : Json → Bool) : Type 0 where
   pub j : Json
-  pub is : m ≡ some j
+  pub is : m ≡ Some j
   pub holds : f j ≡ true
 
-pub must_there : (m : Maybe) (f : Json → Bool) → must m f ≡ true → There m f
-must_there none f e = clash {b = false} e refl
-must_there (some j) f e = record { j = j; is = refl; holds = e }
+pub must_there : (m : Option Json) (f : Json → Bool) → must m f ≡ true → There m f
+must_there None f e = clash {b = false} e refl
+must_there (Some j) f e = record { j = j; is = refl; holds = e }
 
-pub absent_none : (m : Maybe) → may m (obeys Nothing) ≡ true → m ≡ none
-absent_none none e = refl
-absent_none (some j) e = clash {b = false} e refl
+pub absent_none : (m : Option Json) → may m (obeys Nothing) ≡ true → m ≡ None
+absent_none None e = refl
+absent_none (Some j) e = clash {b = false} e refl
 
-pub record Counted (low high : ℕ) (c : Count) : Type 0 where
+pub record Counted (low high : ℕ) (c : Option ℕ) : Type 0 where
   pub n : ℕ
-  pub is : c ≡ Is n
+  pub is : c ≡ Some n
   pub above : low ≤ n
   pub below : n ≤ high
 
-pub counted : (low high : ℕ) (c : Count) → within low high c ≡ true → Counted low high c
-counted low high Not e = clash {b = false} e refl
-counted low high (Is n) e = record { n = n; is = refl; above = leb-true low n (and_left _ _ e); below = leb-true n high (and_right (leb low n) _ e) }
+pub counted : (low high : ℕ) (c : Option ℕ) → within low high c ≡ true → Counted low high c
+counted low high None e = clash {b = false} e refl
+counted low high (Some n) e = record { n = n; is = refl; above = leb-true low n (and_left _ _ e); below = leb-true n high (and_right (leb low n) _ e) }
 
 -- ## ranges
 pub one_holds : (a b x : ℕ) → in_some (ranges_of (one_range a b)) x ≡ in_range a b x
@@ -58,7 +57,7 @@ range_is : (a b x : ℕ) → in_range a b x ≡ (leb a x && (leb x b && true))
 unfolding in_range
 range_is a b x = ap (λ c. leb a x && c) (sym (and-true (leb x b)))
 
-number_is : (n : ℕ) → n ≤ 65535 → port_number (Is n) ≡ n
+number_is : (n : ℕ) → n ≤ 65535 → port_number (Some n) ≡ n
 number_is n h = rw (lt-ltb n 65536 (omega arith))
 
 other_holds : (n x : ℕ) → n ≤ 65535 → x ≤ 65535 → in_some (ranges_of (other_than n)) x ≡ not (eqb x n)
@@ -92,7 +91,7 @@ from_holds : (n x : ℕ) → x ≤ 65535 → in_range n 65535 x ≡ leb n x
 unfolding in_range
 from_holds n x h = rw (le-leb x 65535 h) (and-true (leb n x))
 
-operator_holds_lem : (o : List ℕ) (n x : ℕ) → n ≤ 65535 → x ≤ 65535 → in_some (ranges_of (by_operator o n)) x ≡ operator_holds o x (Is n)
+operator_holds_lem : (o : List ℕ) (n x : ℕ) → n ≤ 65535 → x ≤ 65535 → in_some (ranges_of (by_operator o n)) x ≡ operator_holds o x (Some n)
 unfolding by_operator operator_holds
 operator_holds_lem o n x h k =
     by_test (same_bytes o (ascii "neq"))
@@ -117,7 +116,7 @@ range_form p x e =
     let n = counted 0 65535 (count_of h.j) d.0 in
     go l.j h.j l.is h.is (absent_none (lookup (ascii "port") p) b.0) m.n n.n m.is n.is m.below n.below
   where
-    go : (l h : Json) → lookup (ascii "lower-port") p ≡ some l → lookup (ascii "upper-port") p ≡ some h → lookup (ascii "port") p ≡ none → (a b : ℕ) → count_of l ≡ Is a → count_of h ≡ Is b → a ≤ 65535 → b ≤ 65535 → in_some (ranges_of (ports_of p)) x ≡ port_holds x p
+    go : (l h : Json) → lookup (ascii "lower-port") p ≡ Some l → lookup (ascii "upper-port") p ≡ Some h → lookup (ascii "port") p ≡ None → (a b : ℕ) → count_of l ≡ Some a → count_of h ≡ Some b → a ≤ 65535 → b ≤ 65535 → in_some (ranges_of (ports_of p)) x ≡ port_holds x p
     go l h p1 p2 p3 a b q1 q2 la lb = unfold ports_of port_holds in rw (p1, p2, p3, q1, q2, number_is a la, number_is b lb) (one_holds a b x ∙ range_is a b x)
 
 operator_form : (p : Json) (x : ℕ) → x ≤ 65535 → is_operator_form p ≡ true → in_some (ranges_of (ports_of p)) x ≡ port_holds x p
@@ -130,7 +129,7 @@ operator_form p x k e =
     let m = counted 0 65535 (count_of n.j) n.holds in
     go n.j n.is (absent_none (lookup (ascii "lower-port") p) c.0) (absent_none (lookup (ascii "upper-port") p) c.1) m.n m.is m.below
   where
-    go : (j : Json) → lookup (ascii "port") p ≡ some j → lookup (ascii "lower-port") p ≡ none → lookup (ascii "upper-port") p ≡ none → (n : ℕ) → count_of j ≡ Is n → n ≤ 65535 → in_some (ranges_of (ports_of p)) x ≡ port_holds x p
+    go : (j : Json) → lookup (ascii "port") p ≡ Some j → lookup (ascii "lower-port") p ≡ None → lookup (ascii "upper-port") p ≡ None → (n : ℕ) → count_of j ≡ Some n → n ≤ 65535 → in_some (ranges_of (ports_of p)) x ≡ port_holds x p
     go j p1 p2 p3 n q l = unfold ports_of port_holds in rw (p2, p3, p1, q, number_is n l) (operator_holds_lem (operator_of (lookup (ascii "operator") p)) n x l k)
 
 -- THE RANGES OF A PORT OBJECT HOLD WHAT IT MATCHES
@@ -142,6 +141,6 @@ port_holds_lem p x k e = go (or_split (is_range_form p) (is_operator_form p) e)
     go (inl h) = range_form p x h
     go (inr h) = operator_form p x k h
 
-pub ports_hold_lem : (m : Maybe) (x : ℕ) → x ≤ 65535 → may m port_ok ≡ true → in_some (ranges_of (ports_in m)) x ≡ may m (port_holds x)
-ports_hold_lem none x k e = one_holds 0 65535 x ∙ in_yes 0 65535 x (omega arith) k
-ports_hold_lem (some p) x k e = port_holds_lem p x k e
+pub ports_hold_lem : (m : Option Json) (x : ℕ) → x ≤ 65535 → may m port_ok ≡ true → in_some (ranges_of (ports_in m)) x ≡ may m (port_holds x)
+ports_hold_lem None x k e = one_holds 0 65535 x ∙ in_yes 0 65535 x (omega arith) k
+ports_hold_lem (Some p) x k e = port_holds_lem p x k e

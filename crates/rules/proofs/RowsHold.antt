@@ -1,4 +1,5 @@
 -- A rule in words holds exactly the flows that its entry matches.
+use Rattle.std.specs.Prelude.{Option, None, Some}
 use Prim.Native.Nat.{ℕ, ◌+◌, ◌*◌, ◌/◌, ◌%◌, ◌≤◌, ◌<◌}
 use native.Mathlib.Omega.{arith}
 use mathlib.Core.Path.{◌≡◌, refl, sym, ap, ap₂, ◌∙◌, subst}
@@ -10,8 +11,7 @@ use borrow.Author.Tests.{lt-ltb, ltb-true, ltb-false}
 use Rattle.text.specs.Ascii.{ascii}
 use Rattle.text.specs.Words.{same_bytes}
 use Rattle.text.specs.Networks.{network_at}
-use Rattle.text.specs.declared.networks.Block.{Block}
-use Rattle.text.specs.declared.networks.Block.TheVariants.{Net, NoNet}
+use Rattle.text.specs.declared.networks.Net.{Net}
 use Rattle.text.proofs.NetworkLaws.{SoundNet, network_sound}
 use Rattle.text.proofs.Tests.{by_test, and_left, and_right, split, both, clash}
 use Rattle.flows.specs.Table.{Range, ◌to◌, in_range}
@@ -21,9 +21,7 @@ use Rattle.flows.specs.declared.Direction.{Direction}
 use Rattle.flows.specs.declared.Direction.TheVariants.{FromDevice, ToDevice}
 use Rattle.flows.proofs.Runs.{in_yes, in_low, in_high}
 use Rattle.builder.specs.Encoding.{range_of, named_by, name_limits, at_most_seven, limits_of, box_of, accepting}
-use Rattle.values.specs.declared.Count.{Count}
-use Rattle.values.specs.declared.Count.TheVariants.{Is, Not}
-use Rattle.values.specs.Tree.{Json, null, bool, integer, real, string, array, object, Maybe, none, some, lookup, count_of, is_object}
+use Rattle.values.specs.Tree.{Json, null, bool, integer, real, string, array, object, lookup, count_of, is_object}
 use Rattle.values.specs.Rules.{must, may, inside, text, bytes_in, under, if_there}
 use Rattle.site.specs.Site.{lines}
 use Rattle.site.specs.Url.{authority_of, same_host, same_authority, same_name}
@@ -75,53 +73,53 @@ one_of_two lo hi x = rw (empty_range x) (by_test (in_range lo hi x) (λ e. rw e)
 pub span_holds : (b : Between) (x : ℕ) → b.high < 4294967296 → in_some (pair_of (span_words b)) x ≡ in_range b.low b.high x
 span_holds b x h = ap (λ (r : Range). in_some (r ∷ (1 to 0 ∷ [])) x) (range_back b.low b.high h) ∙ one_of_two b.low b.high x
 
-pub pair_holds : (p : Ports) (x : ℕ) → p.high < 4294967296 → p.otherHigh < 4294967296 → in_some (pair_of (ports_words p)) x ≡ in_some (ranges_of p) x
-pair_holds p x h k = ap₂ (λ (a b : Range). in_some (a ∷ (b ∷ [])) x) (range_back p.low p.high h) (range_back p.otherLow p.otherHigh k)
+pub pair_holds : (p : Ports) (x : ℕ) → p.high < 4294967296 → p.other_high < 4294967296 → in_some (pair_of (ports_words p)) x ≡ in_some (ranges_of p) x
+pair_holds p x h k = ap₂ (λ (a b : Range). in_some (a ∷ (b ∷ [])) x) (range_back p.low p.high h) (range_back p.other_low p.other_high k)
 
 -- ## the numbers of a rule are small
-protocols_small : (m : Maybe) → (protocols m).high < 4294967296
+protocols_small : (m : Option Json) → (protocols m).high < 4294967296
 unfolding protocols
 protocols_small m = go (under (ascii "tcp") m) (under (ascii "udp") m) (under (ascii "protocol") (under (ascii "ipv4") m))
   where
-    number : (c : Count) → (number_or c (record { low = 0; high = 255 })).high < 4294967296
-    number Not = omega arith
-    number (Is n) = by_test (ltb n 256) (λ e. rw e (omega (arith, ltb-true n 256 e))) (λ e. rw e (omega arith))
+    number : (c : Option ℕ) → (number_or c (record { low = 0; high = 255 })).high < 4294967296
+    number None = omega arith
+    number (Some n) = by_test (ltb n 256) (λ e. rw e (omega (arith, ltb-true n 256 e))) (λ e. rw e (omega arith))
 
-    go : (t u p : Maybe) → (if_there t (record { low = 6; high = 6 }) (if_there u (record { low = 17; high = 17 }) (protocol_in p))).high < 4294967296
-    go (some j) u p = omega arith
-    go none (some j) p = omega arith
-    go none none none = omega arith
-    go none none (some j) = number (count_of j)
+    go : (t u p : Option Json) → (if_there t (record { low = 6; high = 6 }) (if_there u (record { low = 17; high = 17 }) (protocol_in p))).high < 4294967296
+    go (Some j) u p = omega arith
+    go None (Some j) p = omega arith
+    go None None None = omega arith
+    go None None (Some j) = number (count_of j)
 
-openers_small : (m : Maybe) → (openers m).high < 4294967296
+openers_small : (m : Option Json) → (openers m).high < 4294967296
 unfolding openers
 openers_small m = go (under (ascii "ietf-mud:direction-initiated") (under (ascii "tcp") m))
   where
-    go : (o : Maybe) → (opener_in o).high < 4294967296
-    go none = omega arith
-    go (some j) = by_test (same_bytes (bytes_in (some j)) (ascii "from-device")) (λ e. rw e (omega arith)) (λ e. rw e (omega arith))
+    go : (o : Option Json) → (opener_in o).high < 4294967296
+    go None = omega arith
+    go (Some j) = by_test (same_bytes (bytes_in (Some j)) (ascii "from-device")) (λ e. rw e (omega arith)) (λ e. rw e (omega arith))
 
-networks_small : (d : Direction) (m : Maybe) → (networks d m).high < 4294967296
+networks_small : (d : Direction) (m : Option Json) → (networks d m).high < 4294967296
 unfolding networks
 networks_small d m = go (under (remote_network d) (under (ascii "ipv4") m))
   where
-    block : (b : List ℕ) (n : Block) → SoundNet b 0 n → (net_or n).high < 4294967296
-    block b NoNet h = omega arith
-    block b (Net low high given after) h = h.1
+    block : (b : List ℕ) (n : Option (Net × ℕ)) → SoundNet b 0 n → (net_or n).high < 4294967296
+    block b None h = omega arith
+    block b (Some (net, after)) h = h.1
 
-    go : (o : Maybe) → (network_in o).high < 4294967296
-    go none = omega arith
-    go (some j) =
-        let b = bytes_in (some j) in
+    go : (o : Option Json) → (network_in o).high < 4294967296
+    go None = omega arith
+    go (Some j) =
+        let b = bytes_in (Some j) in
         unfold net_in in by_test (is_network b) (λ e. rw e (block b (network_at b 0) (network_sound b 0))) (λ e. rw e (omega arith))
 
 record Small (p : Ports) : Type 0 where
   first : p.high < 4294967296
-  second : p.otherHigh < 4294967296
+  second : p.other_high < 4294967296
 
-number_small : (c : Count) → port_number c ≤ 65535
-number_small Not = omega arith
-number_small (Is n) = by_test (ltb n 65536) (λ e. rw e (omega (arith, ltb-true n 65536 e))) (λ e. rw e (omega arith))
+number_small : (c : Option ℕ) → port_number c ≤ 65535
+number_small None = omega arith
+number_small (Some n) = by_test (ltb n 65536) (λ e. rw e (omega (arith, ltb-true n 65536 e))) (λ e. rw e (omega arith))
 
 one_small : (a b : ℕ) → b ≤ 65535 → Small (one_range a b)
 one_small a b h = record { first = omega arith; second = omega arith }
@@ -133,17 +131,17 @@ operator_small o n h =
     (λ e. rw e (by_test (eqb n 0) (λ f. rw f (one_small 1 65535 (omega arith))) (λ f. rw f (by_test (eqb n 65535) (λ g. rw g (one_small 0 65534 (omega arith))) (λ g. rw g (record { first = omega arith; second = omega arith }))))))
     (λ e. rw e (by_test (same_bytes o (ascii "lte")) (λ f. rw f (one_small 0 n h)) (λ f. rw f (by_test (same_bytes o (ascii "gte")) (λ g. rw g (one_small n 65535 (omega arith))) (λ g. rw g (one_small n n h))))))
 
-ports_small : (m : Maybe) → Small (ports_in m)
-ports_small none = one_small 0 65535 (omega arith)
-ports_small (some p) = unfold ports_of in go (lookup (ascii "lower-port") p) (lookup (ascii "upper-port") p) (lookup (ascii "port") p)
+ports_small : (m : Option Json) → Small (ports_in m)
+ports_small None = one_small 0 65535 (omega arith)
+ports_small (Some p) = unfold ports_of in go (lookup (ascii "lower-port") p) (lookup (ascii "upper-port") p) (lookup (ascii "port") p)
   where
-    go : (l h n : Maybe) → Small (inside l (λ low. inside h (λ high. one_range (port_number (count_of low)) (port_number (count_of high))) all_ports) (inside n (λ k. by_operator (Rattle.rules.specs.Meaning.operator_of (lookup (ascii "operator") p)) (port_number (count_of k))) all_ports))
-    go (some l) (some h) n = one_small (port_number (count_of l)) (port_number (count_of h)) (number_small (count_of h))
-    go (some l) none n = one_small 0 65535 (omega arith)
-    go none h none = one_small 0 65535 (omega arith)
-    go none h (some k) = operator_small (Rattle.rules.specs.Meaning.operator_of (lookup (ascii "operator") p)) (port_number (count_of k)) (number_small (count_of k))
+    go : (l h n : Option Json) → Small (inside l (λ low. inside h (λ high. one_range (port_number (count_of low)) (port_number (count_of high))) all_ports) (inside n (λ k. by_operator (Rattle.rules.specs.Meaning.operator_of (lookup (ascii "operator") p)) (port_number (count_of k))) all_ports))
+    go (Some l) (Some h) n = one_small (port_number (count_of l)) (port_number (count_of h)) (number_small (count_of h))
+    go (Some l) None n = one_small 0 65535 (omega arith)
+    go None h None = one_small 0 65535 (omega arith)
+    go None h (Some k) = operator_small (Rattle.rules.specs.Meaning.operator_of (lookup (ascii "operator") p)) (port_number (count_of k)) (number_small (count_of k))
 
-pub side_holds : (m : Maybe) (x : ℕ) → x ≤ 65535 → may m port_ok ≡ true → in_some (pair_of (ports_words (ports_in m))) x ≡ may m (port_holds x)
+pub side_holds : (m : Option Json) (x : ℕ) → x ≤ 65535 → may m port_ok ≡ true → in_some (pair_of (ports_words (ports_in m))) x ≡ may m (port_holds x)
 side_holds m x h e = pair_holds (ports_in m) x (ports_small m).first (ports_small m).second ∙ ports_hold_lem m x h e
 
 -- ## names
@@ -166,27 +164,27 @@ module _ (site : List ℕ) (few : length (lines site 0) ≤ 64) (x : ℕ) where
   limits_meet [] rest = refl
   limits_meet (m ∷ ms) rest = rw (limits_meet ms rest)
 
-  mask_meets : (m : Maybe) (k : Kind) (test : List ℕ → Bool) → meets (mask_if m (masked k test site)) ≡ may m (λ j. stands_for k test site x)
+  mask_meets : (m : Option Json) (k : Kind) (test : List ℕ → Bool) → meets (mask_if m (masked k test site)) ≡ may m (λ j. stands_for k test site x)
   unfolding meets
-  mask_meets none k test = refl
-  mask_meets (some j) k test = and-true (in_some (named_by (masked k test site) (network_words site)) x) ∙ mask_holds (names k test site) site x few
+  mask_meets None k test = refl
+  mask_meets (Some j) k test = and-true (in_some (named_by (masked k test site) (network_words site)) x) ∙ mask_holds (names k test site) site x few
 
   -- a name that is a string
-  string_meets : (m : Maybe) (k : Kind) (test : List ℕ → List ℕ → Bool) → may m (obeys Text) ≡ true → meets (mask_if m (masked k (test (bytes_in m)) site)) ≡ may m (text (λ b. stands_for k (test b) site x))
-  string_meets none k test e = mask_meets none k (test [])
-  string_meets (some null) k test e = clash {b = false} e refl
-  string_meets (some (bool b)) k test e = clash {b = false} e refl
-  string_meets (some (integer n)) k test e = clash {b = false} e refl
-  string_meets (some real) k test e = clash {b = false} e refl
-  string_meets (some (string b)) k test e = mask_meets (some (string b)) k (test b)
-  string_meets (some (array es)) k test e = clash {b = false} e refl
-  string_meets (some (object ms)) k test e = clash {b = false} e refl
+  string_meets : (m : Option Json) (k : Kind) (test : List ℕ → List ℕ → Bool) → may m (obeys Text) ≡ true → meets (mask_if m (masked k (test (bytes_in m)) site)) ≡ may m (text (λ b. stands_for k (test b) site x))
+  string_meets None k test e = mask_meets None k (test [])
+  string_meets (Some null) k test e = clash {b = false} e refl
+  string_meets (Some (bool b)) k test e = clash {b = false} e refl
+  string_meets (Some (integer n)) k test e = clash {b = false} e refl
+  string_meets (Some real) k test e = clash {b = false} e refl
+  string_meets (Some (string b)) k test e = mask_meets (Some (string b)) k (test b)
+  string_meets (Some (array es)) k test e = clash {b = false} e refl
+  string_meets (Some (object ms)) k test e = clash {b = false} e refl
 
   module _ (url : List ℕ) where
-    mud_meets : (m : Maybe) → may m mud_ok ≡ true → ((meets (thing_masks site m)) && (meets (class_mask site m) && meets (null_masks site url m))) ≡ may m (λ j. mud_holds site url j x)
+    mud_meets : (m : Option Json) → may m mud_ok ≡ true → ((meets (thing_masks site m)) && (meets (class_mask site m) && meets (null_masks site url m))) ≡ may m (λ j. mud_holds site url j x)
     unfolding thing_masks class_mask null_masks meets mud_ok strings_ok mud_holds
-    mud_meets none e = refl
-    mud_meets (some j) e =
+    mud_meets None e = refl
+    mud_meets (Some j) e =
         let a = and_right (is_object j) _ e in
         let s = and_left (strings_ok j) (nulls_ok j) a in
         let u = and_right (may (lookup (ascii "manufacturer") j) (obeys Text)) _ s in
@@ -211,67 +209,67 @@ module _ (site : List ℕ) (few : length (lines site 0) ≤ 64) (x : ℕ) where
         and_assoc₂ false q r = refl
 
 -- ## the parts of `matches`
-net_holds : (m : Maybe) (x : ℕ) → x ≤ 4294967295 → may m (obeys (Spelt Network)) ≡ true → in_range (network_in m).low (network_in m).high x ≡ may m (text (λ n. in_net (network_at n 0) x))
-net_holds none x h e = in_yes 0 4294967295 x (omega arith) h
-net_holds (some null) x h e = clash {b = false} e refl
-net_holds (some (bool b)) x h e = clash {b = false} e refl
-net_holds (some (integer n)) x h e = clash {b = false} e refl
-net_holds (some real) x h e = clash {b = false} e refl
-net_holds (some (string b)) x h e = unfold net_in in rw e (go (network_at b 0) (unfold is_network in e))
+net_holds : (m : Option Json) (x : ℕ) → x ≤ 4294967295 → may m (obeys (Spelt Network)) ≡ true → in_range (network_in m).low (network_in m).high x ≡ may m (text (λ n. in_net (network_at n 0) x))
+net_holds None x h e = in_yes 0 4294967295 x (omega arith) h
+net_holds (Some null) x h e = clash {b = false} e refl
+net_holds (Some (bool b)) x h e = clash {b = false} e refl
+net_holds (Some (integer n)) x h e = clash {b = false} e refl
+net_holds (Some real) x h e = clash {b = false} e refl
+net_holds (Some (string b)) x h e = unfold net_in in rw e (go (network_at b 0) (unfold is_network in e))
   where
-    go : (n : Block) → whole_net b n ≡ true → in_range (net_or n).low (net_or n).high x ≡ in_net n x
-    go NoNet q = clash {b = false} q refl
-    go (Net low high given after) q = refl
-net_holds (some (array es)) x h e = clash {b = false} e refl
-net_holds (some (object ms)) x h e = clash {b = false} e refl
+    go : (n : Option (Net × ℕ)) → whole_net b n ≡ true → in_range (net_or n).low (net_or n).high x ≡ in_net n x
+    go None q = clash {b = false} q refl
+    go (Some (net, after)) q = refl
+net_holds (Some (array es)) x h e = clash {b = false} e refl
+net_holds (Some (object ms)) x h e = clash {b = false} e refl
 
-initiator_holds : (m : Maybe) (c : ℕ) → c ≤ 1 → may m (obeys (Spelt Initiator)) ≡ true → in_range (opener_in m).low (opener_in m).high c ≡ may m (text (λ b. cond (same_bytes b (ascii "from-device")) (eqb c 0) (eqb c 1)))
-initiator_holds none c h e = in_yes 0 1 c (omega arith) h
-initiator_holds (some null) c h e = clash {b = false} e refl
-initiator_holds (some (bool b)) c h e = clash {b = false} e refl
-initiator_holds (some (integer n)) c h e = clash {b = false} e refl
-initiator_holds (some real) c h e = clash {b = false} e refl
-initiator_holds (some (string b)) c h e = by_test (same_bytes b (ascii "from-device")) (λ q. rw q (single_holds 0 c)) (λ q. rw q (single_holds 1 c))
-initiator_holds (some (array es)) c h e = clash {b = false} e refl
-initiator_holds (some (object ms)) c h e = clash {b = false} e refl
+initiator_holds : (m : Option Json) (c : ℕ) → c ≤ 1 → may m (obeys (Spelt Initiator)) ≡ true → in_range (opener_in m).low (opener_in m).high c ≡ may m (text (λ b. cond (same_bytes b (ascii "from-device")) (eqb c 0) (eqb c 1)))
+initiator_holds None c h e = in_yes 0 1 c (omega arith) h
+initiator_holds (Some null) c h e = clash {b = false} e refl
+initiator_holds (Some (bool b)) c h e = clash {b = false} e refl
+initiator_holds (Some (integer n)) c h e = clash {b = false} e refl
+initiator_holds (Some real) c h e = clash {b = false} e refl
+initiator_holds (Some (string b)) c h e = by_test (same_bytes b (ascii "from-device")) (λ q. rw q (single_holds 0 c)) (λ q. rw q (single_holds 1 c))
+initiator_holds (Some (array es)) c h e = clash {b = false} e refl
+initiator_holds (Some (object ms)) c h e = clash {b = false} e refl
 
-number_holds : (m : Maybe) (b : ℕ) → b ≤ 255 → may m (obeys (Integer 0 255)) ≡ true → in_range (protocol_in m).low (protocol_in m).high b ≡ may m (λ j. equals b (count_of j))
-number_holds none b h e = in_yes 0 255 b (omega arith) h
-number_holds (some j) b h e =
+number_holds : (m : Option Json) (b : ℕ) → b ≤ 255 → may m (obeys (Integer 0 255)) ≡ true → in_range (protocol_in m).low (protocol_in m).high b ≡ may m (λ j. equals b (count_of j))
+number_holds None b h e = in_yes 0 255 b (omega arith) h
+number_holds (Some j) b h e =
     let c = counted 0 255 (count_of j) e in
     go c.n c.is c.below
   where
-    go : (n : ℕ) → count_of j ≡ Is n → n ≤ 255 → in_range (protocol_in (some j)).low (protocol_in (some j)).high b ≡ equals b (count_of j)
+    go : (n : ℕ) → count_of j ≡ Some n → n ≤ 255 → in_range (protocol_in (Some j)).low (protocol_in (Some j)).high b ≡ equals b (count_of j)
     go n q l = rw (q, lt-ltb n 256 (omega arith)) (single_holds n b)
 
 -- beside `tcp` or `udp` no other protocol stands
-number_agrees : (m : Maybe) (b n : ℕ) → may m (obeys (Integer n n)) ≡ true → eqb b n ≡ true → may m (λ j. equals b (count_of j)) ≡ true
-number_agrees none b n e h = refl
-number_agrees (some j) b n e h =
+number_agrees : (m : Option Json) (b n : ℕ) → may m (obeys (Integer n n)) ≡ true → eqb b n ≡ true → may m (λ j. equals b (count_of j)) ≡ true
+number_agrees None b n e h = refl
+number_agrees (Some j) b n e h =
     let c = counted n n (count_of j) e in
     go c.n c.is c.above c.below
   where
-    go : (k : ℕ) → count_of j ≡ Is k → n ≤ k → k ≤ n → equals b (count_of j) ≡ true
+    go : (k : ℕ) → count_of j ≡ Some k → n ≤ k → k ≤ n → equals b (count_of j) ≡ true
     go k q l m = let z : n ≡ k = omega arith in rw q (subst (λ (i : ℕ). eqb b i ≡ true) z h)
 
 -- ports of both sides
-sides_hold : (d : Direction) (t : Maybe) (y z : ℕ) → y ≤ 65535 → z ≤ 65535 → may t ports_ok ≡ true → ((in_some (pair_of (ports_words (port_sides d t).remote)) y) && in_some (pair_of (ports_words (port_sides d t).device)) z) ≡ may t (λ j. ports_hold d j y z)
+sides_hold : (d : Direction) (t : Option Json) (y z : ℕ) → y ≤ 65535 → z ≤ 65535 → may t ports_ok ≡ true → ((in_some (pair_of (ports_words (port_sides d t).remote)) y) && in_some (pair_of (ports_words (port_sides d t).device)) z) ≡ may t (λ j. ports_hold d j y z)
 unfolding port_sides ports_hold ports_ok
-sides_hold d none y z h k e = go d
+sides_hold d None y z h k e = go d
   where
-    all_ports_lem : (x : ℕ) → x ≤ 65535 → in_some (pair_of (ports_words (ports_in none))) x ≡ true
-    all_ports_lem x l = side_holds none x l refl
+    all_ports_lem : (x : ℕ) → x ≤ 65535 → in_some (pair_of (ports_words (ports_in None))) x ≡ true
+    all_ports_lem x l = side_holds None x l refl
 
-    go : (d : Direction) → ((in_some (pair_of (ports_words (port_sides d none).remote)) y) && in_some (pair_of (ports_words (port_sides d none).device)) z) ≡ true
+    go : (d : Direction) → ((in_some (pair_of (ports_words (port_sides d None).remote)) y) && in_some (pair_of (ports_words (port_sides d None).device)) z) ≡ true
     go FromDevice = unfold port_sides in ap₂ ◌&&◌ (all_ports_lem y h) (all_ports_lem z k)
     go ToDevice = unfold port_sides in ap₂ ◌&&◌ (all_ports_lem y h) (all_ports_lem z k)
-sides_hold FromDevice (some j) y z h k e =
+sides_hold FromDevice (Some j) y z h k e =
     let a = and_right (is_object j) _ e in
     let s = and_left (may (lookup (ascii "source-port") j) port_ok) _ a in
     let t = and_right (may (lookup (ascii "source-port") j) port_ok) _ a in
     ap₂ ◌&&◌ (side_holds (lookup (ascii "destination-port") j) y h t) (side_holds (lookup (ascii "source-port") j) z k s)
     ∙ and_turn (may (lookup (ascii "destination-port") j) (port_holds y)) (may (lookup (ascii "source-port") j) (port_holds z))
-sides_hold ToDevice (some j) y z h k e =
+sides_hold ToDevice (Some j) y z h k e =
     let a = and_right (is_object j) _ e in
     let s = and_left (may (lookup (ascii "source-port") j) port_ok) _ a in
     let t = and_right (may (lookup (ascii "source-port") j) port_ok) _ a in
@@ -307,11 +305,11 @@ without_transport p n h m = same_test
     (λ z. let a = split m _ z in let b = split p _ a.1 in let c = split n h b.1 in both p _ b.0 (both n _ c.0 (both m h a.0 c.1)))
 
 -- ## the words of a rule
-mask_one : (m : Maybe) (w : ℕ) → length (mask_if m w) ≤ 1
-mask_one none w = omega arith
-mask_one (some j) w = omega arith
+mask_one : (m : Option Json) (w : ℕ) → length (mask_if m w) ≤ 1
+mask_one None w = omega arith
+mask_one (Some j) w = omega arith
 
-pub masks_few : (d : Direction) (site url : List ℕ) (m : Maybe) → length (mask_words d site url m) ≤ 7
+pub masks_few : (d : Direction) (site url : List ℕ) (m : Option Json) → length (mask_words d site url m) ≤ 7
 unfolding mask_words thing_masks class_mask null_masks host_mask
 masks_few d site url m =
     let mud = under (ascii "ietf-mud:mud") m in
@@ -353,42 +351,42 @@ rule_long d site url e = omega (arith, masks_few d site url (lookup (ascii "matc
 
 -- ## all of them together
 module _ (d : Direction) (site url : List ℕ) (few : length (lines site 0) ≤ 64) (b c x y z : ℕ) (hb : b ≤ 255) (hc : c ≤ 1) (hx : x ≤ 4294967295) (hy : y ≤ 65535) (hz : z ≤ 65535) where
-  abbrev inside₁ : Maybe → Bool
+  abbrev inside₁ : Option Json → Bool
   inside₁ m = in_range (protocols m).low (protocols m).high b
 
-  abbrev inside₂ : Maybe → Bool
+  abbrev inside₂ : Option Json → Bool
   inside₂ m = in_range (openers m).low (openers m).high c
 
-  abbrev inside₃ : Maybe → Bool
+  abbrev inside₃ : Option Json → Bool
   inside₃ m = in_range (networks d m).low (networks d m).high x && meets site few x (mask_words d site url m)
 
-  abbrev inside₄ : Maybe → Bool
+  abbrev inside₄ : Option Json → Bool
   inside₄ m = in_some (pair_of (ports_words (port_sides d (transport m)).remote)) y && in_some (pair_of (ports_words (port_sides d (transport m)).device)) z
 
   -- what `ipv4` says, part by part
-  abbrev numbered : Maybe → Bool
+  abbrev numbered : Option Json → Bool
   numbered i = may (under (ascii "protocol") i) (λ j. equals b (count_of j))
 
-  abbrev networked : Maybe → Bool
+  abbrev networked : Option Json → Bool
   networked i = may (under (remote_network d) i) (text (λ n. in_net (network_at n 0) x))
 
-  abbrev hosted : Maybe → Bool
+  abbrev hosted : Option Json → Bool
   hosted i = may (under (remote_name d) i) (text (λ n. is_host site n x))
 
-  ipv4_parts : (i : Maybe) → may i (λ j. ipv4_holds d site j b x) ≡ (numbered i && (networked i && hosted i))
+  ipv4_parts : (i : Option Json) → may i (λ j. ipv4_holds d site j b x) ≡ (numbered i && (networked i && hosted i))
   unfolding ipv4_holds
-  ipv4_parts none = refl
-  ipv4_parts (some j) = refl
+  ipv4_parts None = refl
+  ipv4_parts (Some j) = refl
 
-  record Ipv4 (i : Maybe) : Type 0 where
+  record Ipv4 (i : Option Json) : Type 0 where
     number : may (under (ascii "protocol") i) (obeys (Integer 0 255)) ≡ true
     network : may (under (remote_network d) i) (obeys (Spelt Network)) ≡ true
     name : may (under (remote_name d) i) (obeys Text) ≡ true
 
-  ipv4_sound : (i : Maybe) → may i (ipv4_ok d) ≡ true → Ipv4 i
+  ipv4_sound : (i : Option Json) → may i (ipv4_ok d) ≡ true → Ipv4 i
   unfolding ipv4_ok sides_ok sides_named
-  ipv4_sound none e = record { number = refl; network = refl; name = refl }
-  ipv4_sound (some j) e =
+  ipv4_sound None e = record { number = refl; network = refl; name = refl }
+  ipv4_sound (Some j) e =
       let a = and_right (is_object j) _ e in
       let n = may (lookup (ascii "protocol") j) (obeys (Integer 0 255)) in
       let s = and_right n _ a in
@@ -396,7 +394,7 @@ module _ (d : Direction) (site url : List ℕ) (few : length (lines site 0) ≤ 
       record { number = and_left n _ a; network = and_left w _ s; name = and_left (may (lookup (remote_name d) j) (obeys Text)) _ (and_right w _ s) }
 
   -- the address: network and names
-  address_holds : (m : Json) → may (lookup (ascii "ietf-mud:mud") m) mud_ok ≡ true → may (lookup (ascii "ipv4") m) (ipv4_ok d) ≡ true → inside₃ (some m) ≡ (networked (lookup (ascii "ipv4") m) && (may (lookup (ascii "ietf-mud:mud") m) (λ j. mud_holds site url j x) && hosted (lookup (ascii "ipv4") m)))
+  address_holds : (m : Json) → may (lookup (ascii "ietf-mud:mud") m) mud_ok ≡ true → may (lookup (ascii "ipv4") m) (ipv4_ok d) ≡ true → inside₃ (Some m) ≡ (networked (lookup (ascii "ipv4") m) && (may (lookup (ascii "ietf-mud:mud") m) (λ j. mud_holds site url j x) && hosted (lookup (ascii "ipv4") m)))
   unfolding networks mask_words host_mask
   address_holds m e f =
       let i = lookup (ascii "ipv4") m in
@@ -416,54 +414,54 @@ module _ (d : Direction) (site url : List ℕ) (few : length (lines site 0) ≤ 
       and_three true false r s = refl
       and_three false q r s = refl
 
-  may_under : (w : List ℕ) (i : Maybe) (f : Json → Bool) → may i (λ j. may (lookup w j) f) ≡ true → may (under w i) f ≡ true
-  may_under w none f e = refl
-  may_under w (some j) f e = e
+  may_under : (w : List ℕ) (i : Option Json) (f : Json → Bool) → may i (λ j. may (lookup w j) f) ≡ true → may (under w i) f ≡ true
+  may_under w None f e = refl
+  may_under w (Some j) f e = e
 
   module _ (m : Json) (mud : may (lookup (ascii "ietf-mud:mud") m) mud_ok ≡ true) (ipv4 : may (lookup (ascii "ipv4") m) (ipv4_ok d) ≡ true) where
     abbrev Together : Type 0
-    Together = (inside₁ (some m) && (inside₂ (some m) && (inside₃ (some m) && inside₄ (some m)))) ≡ matches_hold d site url m b c x y z
+    Together = (inside₁ (Some m) && (inside₂ (Some m) && (inside₃ (Some m) && inside₄ (Some m)))) ≡ matches_hold d site url m b c x y z
 
-    abbrev i : Maybe
+    abbrev i : Option Json
     i = lookup (ascii "ipv4") m
 
     abbrev M : Bool
     M = may (lookup (ascii "ietf-mud:mud") m) (λ j. mud_holds site url j x)
 
-    tcp_case : (j : Json) → lookup (ascii "tcp") m ≡ some j → lookup (ascii "udp") m ≡ none → tcp_ok j ≡ true → protocol_is 6 m ≡ true → Together
+    tcp_case : (j : Json) → lookup (ascii "tcp") m ≡ Some j → lookup (ascii "udp") m ≡ None → tcp_ok j ≡ true → protocol_is 6 m ≡ true → Together
     unfolding protocols openers transport tcp_ok protocol_is matches_hold opener_holds
     tcp_case j p q k n =
         let ports = and_left (ports_ok j) _ k in
         let who = and_right (ports_ok j) _ k in
-        let one : inside₁ (some m) ≡ eqb b 6 = rw p (single_holds 6 b) in
-        let two : inside₂ (some m) ≡ opener_holds j c = rw p (initiator_holds (lookup (ascii "ietf-mud:direction-initiated") j) c hc who) in
-        let four : inside₄ (some m) ≡ ports_hold d j y z = rw p (sides_hold d (some j) y z hy hz ports) in
+        let one : inside₁ (Some m) ≡ eqb b 6 = rw p (single_holds 6 b) in
+        let two : inside₂ (Some m) ≡ opener_holds j c = rw p (initiator_holds (lookup (ascii "ietf-mud:direction-initiated") j) c hc who) in
+        let four : inside₄ (Some m) ≡ ports_hold d j y z = rw p (sides_hold d (Some j) y z hy hz ports) in
         ap₂ ◌&&◌ one (ap₂ ◌&&◌ two (ap₂ ◌&&◌ (address_holds m mud ipv4) four))
         ∙ with_transport (eqb b 6) (numbered i) (networked i) (hosted i) M (opener_holds j c) (ports_hold d j y z) (number_agrees (under (ascii "protocol") i) b 6 (may_under (ascii "protocol") i (obeys (Integer 6 6)) n))
         ∙ sym (rw (p, q, ipv4_parts i, and-true (eqb b 6 && (ports_hold d j y z && opener_holds j c))))
 
-    udp_case : (j : Json) → lookup (ascii "tcp") m ≡ none → lookup (ascii "udp") m ≡ some j → ports_ok j ≡ true → protocol_is 17 m ≡ true → Together
+    udp_case : (j : Json) → lookup (ascii "tcp") m ≡ None → lookup (ascii "udp") m ≡ Some j → ports_ok j ≡ true → protocol_is 17 m ≡ true → Together
     unfolding protocols openers transport protocol_is matches_hold
     udp_case j p q k n =
-        let one : inside₁ (some m) ≡ eqb b 17 = rw (p, q) (single_holds 17 b) in
-        let two : inside₂ (some m) ≡ true = rw p (in_yes 0 1 c (omega arith) hc) in
-        let four : inside₄ (some m) ≡ ports_hold d j y z = rw (p, q) (sides_hold d (some j) y z hy hz k) in
+        let one : inside₁ (Some m) ≡ eqb b 17 = rw (p, q) (single_holds 17 b) in
+        let two : inside₂ (Some m) ≡ true = rw p (in_yes 0 1 c (omega arith) hc) in
+        let four : inside₄ (Some m) ≡ ports_hold d j y z = rw (p, q) (sides_hold d (Some j) y z hy hz k) in
         ap₂ ◌&&◌ one (ap₂ ◌&&◌ two (ap₂ ◌&&◌ (address_holds m mud ipv4) four))
         ∙ with_transport (eqb b 17) (numbered i) (networked i) (hosted i) M true (ports_hold d j y z) (number_agrees (under (ascii "protocol") i) b 17 (may_under (ascii "protocol") i (obeys (Integer 17 17)) n))
         ∙ sym (rw (p, q, ipv4_parts i, and-true (ports_hold d j y z)))
 
-    other_case : lookup (ascii "tcp") m ≡ none → lookup (ascii "udp") m ≡ none → Together
+    other_case : lookup (ascii "tcp") m ≡ None → lookup (ascii "udp") m ≡ None → Together
     unfolding protocols openers transport matches_hold
     other_case p q =
-        let one : inside₁ (some m) ≡ numbered i = rw (p, q) (number_holds (under (ascii "protocol") i) b hb (ipv4_sound i ipv4).number) in
-        let two : inside₂ (some m) ≡ true = rw p (in_yes 0 1 c (omega arith) hc) in
-        let four : inside₄ (some m) ≡ true = rw (p, q) (sides_hold d none y z hy hz refl) in
+        let one : inside₁ (Some m) ≡ numbered i = rw (p, q) (number_holds (under (ascii "protocol") i) b hb (ipv4_sound i ipv4).number) in
+        let two : inside₂ (Some m) ≡ true = rw p (in_yes 0 1 c (omega arith) hc) in
+        let four : inside₄ (Some m) ≡ true = rw (p, q) (sides_hold d None y z hy hz refl) in
         ap₂ ◌&&◌ one (ap₂ ◌&&◌ two (ap₂ ◌&&◌ (address_holds m mud ipv4) four))
         ∙ ap (λ t. numbered i && t) (and-true (networked i && (M && hosted i)))
         ∙ without_transport (numbered i) (networked i) (hosted i) M
         ∙ sym (rw (p, q, ipv4_parts i, and-true (numbered i && (networked i && hosted i))))
 
-  matches_hold_lem : (m : Json) → matches_ok d m ≡ true → (inside₁ (some m) && (inside₂ (some m) && (inside₃ (some m) && inside₄ (some m)))) ≡ matches_hold d site url m b c x y z
+  matches_hold_lem : (m : Json) → matches_ok d m ≡ true → (inside₁ (Some m) && (inside₂ (Some m) && (inside₃ (Some m) && inside₄ (Some m)))) ≡ matches_hold d site url m b c x y z
   unfolding matches_ok transport_ok tcp_beside udp_beside
   matches_hold_lem m e =
       let a = and_right (is_object m) _ e in
@@ -474,21 +472,21 @@ module _ (d : Direction) (site url : List ℕ) (few : length (lines site 0) ≤ 
       let u = may (lookup (ascii "tcp") m) (tcp_beside m) in
       go (lookup (ascii "tcp") m) (lookup (ascii "udp") m) refl refl (and_left mud _ a) (and_left i _ f) (and_left u _ t) (and_right u _ t)
     where
-      go : (t u : Maybe) → lookup (ascii "tcp") m ≡ t → lookup (ascii "udp") m ≡ u → may (lookup (ascii "ietf-mud:mud") m) mud_ok ≡ true → may (lookup (ascii "ipv4") m) (ipv4_ok d) ≡ true
+      go : (t u : Option Json) → lookup (ascii "tcp") m ≡ t → lookup (ascii "udp") m ≡ u → may (lookup (ascii "ietf-mud:mud") m) mud_ok ≡ true → may (lookup (ascii "ipv4") m) (ipv4_ok d) ≡ true
           → may t (tcp_beside m) ≡ true → may u (udp_beside m) ≡ true
-          → (inside₁ (some m) && (inside₂ (some m) && (inside₃ (some m) && inside₄ (some m)))) ≡ matches_hold d site url m b c x y z
-      go (some j) u p q g h k l =
+          → (inside₁ (Some m) && (inside₂ (Some m) && (inside₃ (Some m) && inside₄ (Some m)))) ≡ matches_hold d site url m b c x y z
+      go (Some j) u p q g h k l =
           let s = and_right (tcp_ok j) _ (unfold tcp_beside in k) in
           tcp_case m g h j p (absent_none (lookup (ascii "udp") m) (and_left (may (lookup (ascii "udp") m) (obeys Nothing)) _ s)) (and_left (tcp_ok j) _ (unfold tcp_beside in k)) (and_right (may (lookup (ascii "udp") m) (obeys Nothing)) _ s)
-      go none (some j) p q g h k l = udp_case m g h j p q (and_left (ports_ok j) _ (unfold udp_beside in l)) (and_right (ports_ok j) _ (unfold udp_beside in l))
-      go none none p q g h k l = other_case m g h p q
+      go None (Some j) p q g h k l = udp_case m g h j p q (and_left (ports_ok j) _ (unfold udp_beside in l)) (and_right (ports_ok j) _ (unfold udp_beside in l))
+      go None None p q g h k l = other_case m g h p q
 
-  entry_holds_lem : (m : Maybe) → may m (matches_ok d) ≡ true → (inside₁ m && (inside₂ m && (inside₃ m && inside₄ m))) ≡ may m (λ j. matches_hold d site url j b c x y z)
+  entry_holds_lem : (m : Option Json) → may m (matches_ok d) ≡ true → (inside₁ m && (inside₂ m && (inside₃ m && inside₄ m))) ≡ may m (λ j. matches_hold d site url j b c x y z)
   unfolding protocols openers networks mask_words thing_masks class_mask null_masks host_mask meets transport
-  entry_holds_lem none e = ap₂ ◌&&◌ (in_yes 0 255 b (omega arith) hb) (ap₂ ◌&&◌ (in_yes 0 1 c (omega arith) hc) (ap₂ ◌&&◌ (ap₂ ◌&&◌ (in_yes 0 4294967295 x (omega arith) hx) refl) (sides_hold d none y z hy hz refl)))
-  entry_holds_lem (some m) e = matches_hold_lem m e
+  entry_holds_lem None e = ap₂ ◌&&◌ (in_yes 0 255 b (omega arith) hb) (ap₂ ◌&&◌ (in_yes 0 1 c (omega arith) hc) (ap₂ ◌&&◌ (ap₂ ◌&&◌ (in_yes 0 4294967295 x (omega arith) hx) refl) (sides_hold d None y z hy hz refl)))
+  entry_holds_lem (Some m) e = matches_hold_lem m e
 
-  names_hold : (m : Maybe) (rest : List ℕ) → in_all (name_limits (network_words site) (at_most_seven (length (mask_words d site url m))) (mask_words d site url m ++ rest)) x ≡ meets site few x (mask_words d site url m)
+  names_hold : (m : Option Json) (rest : List ℕ) → in_all (name_limits (network_words site) (at_most_seven (length (mask_words d site url m))) (mask_words d site url m ++ rest)) x ≡ meets site few x (mask_words d site url m)
   names_hold m rest = rw (seven (length (mask_words d site url m)) (masks_few d site url m)) (limits_meet site few x (mask_words d site url m) rest)
 
   direction_small : (d : Direction) → direction_number d < 4294967296

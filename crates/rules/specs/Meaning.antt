@@ -1,10 +1,9 @@
 -- WHICH FLOWS A FILE LETS THROUGH (document 01, 'The MUD rules'), in its sentences: no ranges, no tables.
-use Rattle.std.specs.Prelude.{ℕ, List, [], ◌∷◌, Bool, false, not, ◌&&◌, ◌||◌, cond, leb, eqb, get_or}
+use Rattle.std.specs.Prelude.{ℕ, List, [], ◌∷◌, Bool, false, not, ◌&&◌, ◌||◌, cond, leb, eqb, get_or, Option, None, Some}
 use Rattle.text.specs.Ascii.{ascii}
 use Rattle.text.specs.Words.{same_bytes}
 use Rattle.text.specs.Networks.{network_at}
-use Rattle.text.specs.declared.networks.Block.{Block}
-use Rattle.text.specs.declared.networks.Block.TheVariants.{Net, NoNet}
+use Rattle.text.specs.declared.networks.Net.{Net}
 use Rattle.flows.specs.Table.{Point, in_range}
 use Rattle.flows.specs.Flow.{is_flow}
 use Rattle.flows.specs.Rules.{Said, silent, said}
@@ -12,26 +11,24 @@ use Rattle.flows.specs.Numbers.{direction_number}
 use Rattle.flows.specs.declared.Direction.{Direction}
 use Rattle.flows.specs.declared.Direction.TheVariants.{FromDevice, ToDevice}
 use Rattle.site.specs.Url.{authority_of}
-use Rattle.values.specs.declared.Count.{Count}
-use Rattle.values.specs.declared.Count.TheVariants.{Is, Not}
-use Rattle.values.specs.Tree.{Json, null, bool, integer, real, string, array, object, Maybe, none, some, lookup, count_of}
+use Rattle.values.specs.Tree.{Json, null, bool, integer, real, string, array, object, lookup, count_of}
 use Rattle.values.specs.Rules.{must, may, text, under, bytes_in}
 use Rattle.lists.specs.Lists.{entries_of}
 use Rattle.entries.specs.Sound.{remote_network, remote_name}
 use Rattle.naming.specs.Named.{is_host, is_class, is_mine, is_local, is_made_by, is_model}
 
 -- a number against an integer of the file
-abbrev pub equals : ℕ → Count → Bool
-equals x Not = false
-equals x (Is n) = eqb x n
+abbrev pub equals : ℕ → Option ℕ → Bool
+equals x None = false
+equals x (Some n) = eqb x n
 
-abbrev pub at_least : ℕ → Count → Bool
-at_least x Not = false
-at_least x (Is n) = leb n x
+abbrev pub at_least : ℕ → Option ℕ → Bool
+at_least x None = false
+at_least x (Some n) = leb n x
 
-abbrev pub at_most : ℕ → Count → Bool
-at_most x Not = false
-at_most x (Is n) = leb x n
+abbrev pub at_most : ℕ → Option ℕ → Bool
+at_most x None = false
+at_most x (Some n) = leb x n
 
 -- `ietf-mud:mud`: "Each limits the remote address to the site networks it names"
 unfoldable pub mud_holds : List ℕ → List ℕ → Json → ℕ → Bool
@@ -44,9 +41,9 @@ mud_holds site url j address =
     && may (lookup (ascii "my-controller") j) (λ x. is_mine site url address)))))
 
 -- `ipv4`: the protocol, and a network or a DNS name on the remote's side
-abbrev pub in_net : Block → ℕ → Bool
-in_net NoNet a = false
-in_net (Net low high given after) a = in_range low high a
+abbrev pub in_net : Option (Net × ℕ) → ℕ → Bool
+in_net None a = false
+in_net (Some (net, after)) a = in_range net.low net.high a
 
 unfoldable pub ipv4_holds : Direction → List ℕ → Json → ℕ → ℕ → Bool
 ipv4_holds d site j protocol address =
@@ -55,21 +52,21 @@ ipv4_holds d site j protocol address =
     && may (lookup (remote_name d) j) (text (λ b. is_host site b address)))
 
 -- ports: "`lower-port` and `upper-port` .. or `port` with `operator` `eq`, `neq`, `lte`, `gte`. An absent operator is `eq`."
-unfoldable pub operator_holds : List ℕ → ℕ → Count → Bool
+unfoldable pub operator_holds : List ℕ → ℕ → Option ℕ → Bool
 operator_holds operator port n =
     cond (same_bytes operator (ascii "neq")) (not (equals port n))
     (cond (same_bytes operator (ascii "lte")) (at_most port n)
     (cond (same_bytes operator (ascii "gte")) (at_least port n) (equals port n)))
 
-abbrev pub operator_of : Maybe → List ℕ
-operator_of none = ascii "eq"
-operator_of (some null) = ascii "eq"
-operator_of (some (bool b)) = ascii "eq"
-operator_of (some (integer n)) = ascii "eq"
-operator_of (some real) = ascii "eq"
-operator_of (some (string b)) = b
-operator_of (some (array es)) = ascii "eq"
-operator_of (some (object ms)) = ascii "eq"
+abbrev pub operator_of : Option Json → List ℕ
+operator_of None = ascii "eq"
+operator_of (Some null) = ascii "eq"
+operator_of (Some (bool b)) = ascii "eq"
+operator_of (Some (integer n)) = ascii "eq"
+operator_of (Some real) = ascii "eq"
+operator_of (Some (string b)) = b
+operator_of (Some (array es)) = ascii "eq"
+operator_of (Some (object ms)) = ascii "eq"
 
 unfoldable pub port_holds : ℕ → Json → Bool
 port_holds port p =

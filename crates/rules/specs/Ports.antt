@@ -1,21 +1,19 @@
 -- The ports of an entry as ranges: a port object is two ranges, of which one must hold the port.
-use Rattle.std.specs.Prelude.{ℕ, ◌+◌, ◌-◌, List, cond, eqb, ltb}
+use Rattle.std.specs.Prelude.{ℕ, ◌+◌, ◌-◌, List, cond, eqb, ltb, Option, None, Some}
 use Rattle.text.specs.Ascii.{ascii}
 use Rattle.text.specs.Words.{same_bytes}
-use Rattle.values.specs.declared.Count.{Count}
-use Rattle.values.specs.declared.Count.TheVariants.{Is, Not}
-use Rattle.values.specs.Tree.{Json, Maybe, lookup, count_of}
+use Rattle.values.specs.Tree.{Json, lookup, count_of}
 use Rattle.values.specs.Rules.{inside}
 use Rattle.rules.specs.Meaning.{operator_of}
 use Rattle.rules.specs.declared.ports.Ports.{Ports}
 
 -- an integer of the file as a port, at most 65535
-abbrev pub port_number : Count → ℕ
-port_number Not = 0
-port_number (Is n) = cond (ltb n 65536) n 65535
+abbrev pub port_number : Option ℕ → ℕ
+port_number None = 0
+port_number (Some n) = cond (ltb n 65536) n 65535
 
 abbrev pub ranges : ℕ → ℕ → ℕ → ℕ → Ports
-ranges a b c d = record { low = a; high = b; otherLow = c; otherHigh = d }
+ranges a b c d = record { low = a; high = b; other_low = c; other_high = d }
 
 abbrev pub one_range : ℕ → ℕ → Ports
 one_range a b = ranges a b a b
@@ -40,5 +38,5 @@ ports_of p =
     (inside (lookup (ascii "port") p) (λ n. by_operator (operator_of (lookup (ascii "operator") p)) (port_number (count_of n))) all_ports)
 
 -- an absent port object limits nothing
-abbrev pub ports_in : Maybe → Ports
+abbrev pub ports_in : Option Json → Ports
 ports_in m = inside m ports_of all_ports

@@ -1,18 +1,16 @@
 // The parts of an entry, one for each dimension, as ranges.
+#![tactic(auto, using(crate::proofs::PartLaws::parting), unfolding(crate::specs::Parts::protocols, crate::specs::Parts::openers, crate::specs::Parts::networks, crate::specs::Parts::transport))]
+
 ghost use Rattle.std.specs.Prelude.{◌≡◌};
 ghost use Rattle.values.specs.Tree.{tree_at, seen};
-ghost use Rattle.entries.specs.Places.{Ipv4At, TcpAt, Held};
-ghost use Rattle.rules.specs.Parts.{number_or, protocol_in, protocols, opener_in, openers, network_in, networks, transport};
+ghost use Rattle.rules.specs.Parts.{between, number_or, protocol_in, protocols, opener_in, openers, network_in, networks, transport};
 
-use entries::members::Six;
-use entries::places::{Parts, sides_of};
+use entries::places::{Matches, Tcp, sides_of, tcp_at};
 use flows::Direction;
 use header::strings;
 use text::bytes::byte_at;
-use text::networks::Block;
 use values::plain::integer;
 use values::strings::string_is;
-use values::{Count, Found};
 
 // A range of numbers, both ends in it.
 #[derive(Clone, Copy)]
@@ -21,121 +19,103 @@ pub struct Between {
     pub high: u32,
 }
 
-fn number_or(c: Count, other: Between) -> Between
-    ensures { result ≡ number_or c other }
+impl Between {
+    pub const PROTOCOLS: Between = Between { low: 0, high: 255 };
+
+    pub const OPENERS: Between = Between { low: 0, high: 1 };
+
+    pub const ADDRESSES: Between = Between {
+        low: 0,
+        high: u32::MAX,
+    };
+
+    pub fn only(n: u32) -> Between
+        ensures { result ≡ between n n }
+    {
+        Between { low: n, high: n }
+    }
+}
+
+// Every protocol, unless the number is one.
+fn protocol_or_all(c: Option<u64>) -> Between
+    ensures { result ≡ number_or c (between 0 255) }
 {
     match c {
-        Count::Not => other,
-        Count::Is(n) => {
-            if n < 256 {
-                let k = (n % 256) as u32;
-                return Between { low: k, high: k };
+        Some(n) if n < 256 => Between::only(n as u32),
+        _ => Between::PROTOCOLS,
+    }
+}
+
+fn protocol_in(s: &[u8], found: Option<usize>) -> Between
+    ensures { result ≡ protocol_in (seen (tree_at 7 s.now) found) }
+{
+    match found {
+        None => Between::PROTOCOLS,
+        Some(p) => protocol_or_all(integer(s, p, 7)),
+    }
+}
+
+pub fn protocols_of(m: &Matches) -> Between
+    ensures { result ≡ protocols (seen (tree_at 9 m.now.s.now) m.now.found) }
+{
+    match (m.tcp, m.udp) {
+        (Some(_), _) => Between::only(6),
+        (None, Some(_)) => Between::only(17),
+        (None, None) => protocol_in(m.s, m.ipv4.protocol),
+    }
+}
+
+fn opener_in(s: &[u8], found: Option<usize>) -> Between
+    ensures { result ≡ opener_in (seen (tree_at 7 s.now) found) }
+{
+    match found {
+        None => Between::OPENERS,
+        Some(p) => {
+            if byte_at(s, p) == b'"' && string_is(s, p + 1, b"from-device") {
+                Between::only(0)
+            } else {
+                Between::only(1)
             }
-            other
         }
     }
 }
 
-fn protocol_in(s: &[u8], found: Found) -> Between
-    ensures { result ≡ protocol_in (seen (tree_at 7 s.now) found) }
+// Who opens; `t` is `tcp` or `udp`, whichever is there.
+pub fn openers_of(m: &Matches, t: &Tcp) -> Between
+    requires { (t.now.s.now ≡ m.now.s.now) × (transport (seen (tree_at 9 m.now.s.now) m.now.found) ≡ seen (tree_at 8 m.now.s.now) t.now.found) }
+    ensures { result ≡ openers (seen (tree_at 9 m.now.s.now) m.now.found) }
 {
-    match found {
-        Found::Missing => Between { low: 0, high: 255 },
-        Found::At(p) => number_or(integer(s, p, 7), Between { low: 0, high: 255 }),
+    match m.tcp {
+        None => Between::OPENERS,
+        Some(_) => opener_in(t.s, t.initiated),
     }
 }
 
-// The protocols of the matches that were found; `e` has where their members stand, `m` those of `ipv4`.
-pub fn protocols_of(s: &[u8], found: Found, e: Parts, m: Six) -> Between
-    requires { Held s.now found e × Ipv4At s.now e.ipv4 m }
-    ensures { result ≡ protocols (seen (tree_at 9 s.now) found) }
-{
-    let tcp = e.tcp;
-    if let Found::At(_) = tcp {
-        return Between { low: 6, high: 6 };
-    }
-    let udp = e.udp;
-    if let Found::At(_) = udp {
-        return Between { low: 17, high: 17 };
-    }
-    let protocol = m.first;
-    protocol_in(s, protocol)
-}
-
-fn opener_in(s: &[u8], found: Found) -> Between
-    ensures { result ≡ opener_in (seen (tree_at 7 s.now) found) }
-{
-    let Found::At(p) = found else {
-        return Between { low: 0, high: 1 };
-    };
-    if byte_at(s, p) != b'"' {
-        return Between { low: 1, high: 1 };
-    }
-    if string_is(s, p + 1, b"from-device") {
-        return Between { low: 0, high: 0 };
-    }
-    Between { low: 1, high: 1 }
-}
-
-// Who opens; `t` has the members of `layer`, which is `tcp` or `udp`.
-pub fn openers_of(s: &[u8], found: Found, e: Parts, layer: Found, t: Six) -> Between
-    requires { Held s.now found e × (transport (seen (tree_at 9 s.now) found) ≡ seen (tree_at 8 s.now) layer) × TcpAt s.now layer t }
-    ensures { result ≡ openers (seen (tree_at 9 s.now) found) }
-{
-    let tcp = e.tcp;
-    let initiated = t.third;
-    match tcp {
-        Found::Missing => Between { low: 0, high: 1 },
-        Found::At(_) => opener_in(s, initiated),
-    }
-}
-
-fn network_in(s: &[u8], found: Found) -> Between
+fn network_in(s: &[u8], found: Option<usize>) -> Between
     ensures { result ≡ network_in (seen (tree_at 7 s.now) found) }
 {
-    let Found::At(p) = found else {
-        return Between {
-            low: 0,
-            high: 4294967295,
-        };
-    };
-    if byte_at(s, p) != b'"' {
-        return Between {
-            low: 0,
-            high: 4294967295,
-        };
-    }
-    match strings::network(s, p + 1) {
-        Block::NoNet => Between {
-            low: 0,
-            high: 4294967295,
+    match found {
+        Some(p) if byte_at(s, p) == b'"' => match strings::network(s, p + 1) {
+            Some((net, _)) => Between {
+                low: net.low,
+                high: net.high,
+            },
+            None => Between::ADDRESSES,
         },
-        Block::Net(low, high, _, _) => Between {
-            low: low,
-            high: high,
-        },
+        _ => Between::ADDRESSES,
     }
 }
 
-pub fn networks_of(s: &[u8], found: Found, e: Parts, m: Six, d: Direction) -> Between
-    requires { Held s.now found e × Ipv4At s.now e.ipv4 m }
-    ensures { result ≡ networks d (seen (tree_at 9 s.now) found) }
+pub fn networks_of(m: &Matches, d: Direction) -> Between
+    ensures { result ≡ networks d (seen (tree_at 9 m.now.s.now) m.now.found) }
 {
-    let ipv4 = e.ipv4;
-    let sides = sides_of(s, ipv4, m, d);
-    let network = sides.network;
-    network_in(s, network)
+    network_in(m.s, sides_of(&m.ipv4, d).network)
 }
 
 // `tcp` or `udp`, whichever is there.
-pub fn transport_of(s: &[u8], found: Found, e: Parts) -> Found
-    requires { Held s.now found e }
-    ensures { transport (seen (tree_at 9 s.now) found) ≡ seen (tree_at 8 s.now) result }
+pub fn transport_of<'a>(m: &Matches<'a>) -> Tcp<'a>
+    ensures file { result.s.now ≡ m.now.s.now }
+    ensures found { transport (seen (tree_at 9 m.now.s.now) m.now.found) ≡ seen (tree_at 8 m.now.s.now) result.found }
 {
-    let tcp = e.tcp;
-    let udp = e.udp;
-    match tcp {
-        Found::At(p) => Found::At(p),
-        Found::Missing => udp,
-    }
+    tcp_at(m.s, m.tcp.or(m.udp))
 }

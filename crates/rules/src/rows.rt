@@ -1,21 +1,20 @@
 // An entry as a rule of the builder: at most 21 words from a place on.
-ghost use Rattle.std.specs.Prelude.{◌≡◌, cond, ◌≤◌, ◌+◌};
+#![tactic(auto, using(crate::proofs::RowLaws::rowing), unfolding(crate::specs::Rows::port_sides, crate::specs::Rows::row_of, crate::specs::Rows::rule_words, crate::specs::Meaning::entry_accepts))]
+
+ghost use Rattle.std.specs.Prelude.{◌≡◌, ◌≤◌, ◌+◌, ◌*◌};
 ghost use Rattle.text.specs.Written.{Put};
 ghost use Rattle.values.specs.Decode.{bytes_at};
 ghost use Rattle.values.specs.Tree.{tree_at, seen};
-ghost use Rattle.naming.specs.Masks.{PlacesOf};
-ghost use Rattle.entries.specs.Places.{TcpAt, Held, PartsOf};
 ghost use Rattle.rules.specs.Meaning.{entry_accepts};
-ghost use Rattle.rules.specs.Rows.{span_words, ports_words, direction_span, port_sides, row_of, front_words, back_words, row_words, limit_words, rule_words};
+ghost use Rattle.rules.specs.Rows.{ports_words, direction_span, port_sides, row_of, row_words, limit_words, rule_words};
 
-use crate::names::{put_names, put_word};
+use crate::Setting;
+use crate::names::{put_names, put_word, put_words};
 use crate::parts::{Between, networks_of, openers_of, protocols_of, transport_of};
 use crate::ports::{Ports, ports_in};
-use entries::members::Six;
-use entries::places::{Parts, tcp_at};
-use flows::{Direction, direction_number};
+use entries::places::{Entry, Matches, Tcp};
+use flows::Direction;
 use text::bytes::byte_at;
-use values::Found;
 use values::strings::string_is;
 use values::walk::member;
 
@@ -38,14 +37,11 @@ pub struct Row {
 }
 
 // "In a from-device list the destination is the remote and the source the device; in a to-device list the reverse."
-fn port_sides(s: &[u8], transport: Found, t: Six, d: Direction) -> PortSides
-    requires { TcpAt s.now transport t }
-    ensures { result ≡ port_sides d (seen (tree_at 8 s.now) transport) }
+fn port_sides(t: &Tcp, d: Direction) -> PortSides
+    ensures { result ≡ port_sides d (seen (tree_at 8 t.now.s.now) t.now.found) }
 {
-    let first = t.first;
-    let second = t.second;
-    let source = ports_in(s, first);
-    let destination = ports_in(s, second);
+    let source = ports_in(t.s, t.source);
+    let destination = ports_in(t.s, t.destination);
     match d {
         Direction::FromDevice => PortSides {
             remote: destination,
@@ -58,96 +54,75 @@ fn port_sides(s: &[u8], transport: Found, t: Six, d: Direction) -> PortSides
     }
 }
 
-fn is_accepted(s: &[u8], entry: usize, e: Parts) -> bool
-    requires { PartsOf s.now entry e }
-    ensures { result ≡ entry_accepts (tree_at 10 s.now entry) }
+fn is_accepted(e: &Entry) -> bool
+    ensures { result ≡ entry_accepts (tree_at 10 e.now.s.now e.now.at) }
 {
-    let found = e.actions;
-    let Found::At(actions) = found else {
-        return false;
-    };
-    let Found::At(p) = member(s, actions, 9, b"forwarding") else {
-        return false;
-    };
-    if byte_at(s, p) != b'"' {
-        return false;
+    let s = e.s;
+    match e.actions.and_then(|a| member(s, a, 9, b"forwarding")) {
+        None => false,
+        Some(p) => byte_at(s, p) == b'"' && string_is(s, p + 1, b"accept"),
     }
-    string_is(s, p + 1, b"accept")
 }
 
 fn only(d: Direction) -> Between
     ensures { result ≡ direction_span d }
 {
-    let n = direction_number(d) as u32;
-    Between { low: n, high: n }
+    Between::only(u8::from(d).into())
 }
 
-fn row_of(s: &[u8], accepts: bool, found: Found, e: Parts, d: Direction) -> Row
-    requires { Held s.now found e }
-    ensures { result ≡ row_of accepts d (seen (tree_at 9 s.now) found) }
+fn row_of(accepts: bool, m: &Matches, d: Direction) -> Row
+    ensures { result ≡ row_of accepts d (seen (tree_at 9 m.now.s.now) m.now.found) }
 {
-    let m = e.in_ipv4;
-    let layer = transport_of(s, found, e);
-    let t = tcp_at(s, layer);
+    let t = transport_of(m);
     Row {
-        accepts: accepts,
+        accepts,
         direction: only(d),
-        protocols: protocols_of(s, found, e, m),
-        openers: openers_of(s, found, e, layer, t),
-        networks: networks_of(s, found, e, m, d),
-        ports: port_sides(s, layer, t, d),
+        protocols: protocols_of(m),
+        openers: openers_of(m, &t),
+        networks: networks_of(m, d),
+        ports: port_sides(&t, d),
     }
 }
 
-fn bit(on: bool) -> u64
-    ensures { result ≡ cond on 1 0 }
+// From 1 to 0: no second range.
+const EMPTY: u64 = 4294967296;
+
+fn range_word(low: u32, high: u32) -> u64
+    ensures { result ≡ low * 4294967296 + high }
 {
-    if on {
-        return 1;
-    }
-    0
+    u64::from(low) * 4294967296 + u64::from(high)
 }
 
-// A range, low * 2^32 + high, and no second one beside it.
-fn put_span(work: &mut [u64], at: usize, b: Between) -> usize
-    requires { at ≤ 4000 }
-    ensures put { Put work.old at (span_words b) result work.new }
-    ensures value { result ≡ at + 2 }
+fn port_words(p: Ports) -> [u64; 2]
+    ensures { result ≡ ports_words p }
 {
-    let p = put_word(work, at, b.low as u64 * 4294967296 + b.high as u64);
-    put_word(work, p, 4294967296)
+    [
+        range_word(p.low.into(), p.high.into()),
+        range_word(p.other_low.into(), p.other_high.into()),
+    ]
 }
 
-fn put_ports(work: &mut [u64], at: usize, p: Ports) -> usize
-    requires { at ≤ 4000 }
-    ensures put { Put work.old at (ports_words p) result work.new }
-    ensures value { result ≡ at + 2 }
+// Words 0 to 12: what the rule says, and two ranges for each dimension: direction, protocols, openers, networks, remote ports, device ports.
+fn row_words(row: Row) -> [u64; 13]
+    ensures { result ≡ row_words row }
 {
-    let q = put_word(work, at, p.low as u64 * 4294967296 + p.high as u64);
-    put_word(work, q, p.otherLow as u64 * 4294967296 + p.otherHigh as u64)
-}
-
-// Words 0 to 6: what the rule says, direction, protocols, opener.
-fn put_front(work: &mut [u64], at: usize, row: Row) -> usize
-    requires { at ≤ 3000 }
-    ensures put { Put work.old at (front_words row) result work.new }
-    ensures value { result ≡ at + 7 }
-{
-    let p = put_word(work, at, bit(row.accepts));
-    let q = put_span(work, p, row.direction);
-    let r = put_span(work, q, row.protocols);
-    put_span(work, r, row.openers)
-}
-
-// Words 7 to 12: networks, remote ports, device ports.
-fn put_back(work: &mut [u64], at: usize, row: Row) -> usize
-    requires { at ≤ 3500 }
-    ensures put { Put work.old at (back_words row) result work.new }
-    ensures value { result ≡ at + 6 }
-{
-    let p = put_span(work, at, row.networks);
-    let q = put_ports(work, p, row.ports.remote);
-    put_ports(work, q, row.ports.device)
+    let [remote, other_remote] = port_words(row.ports.remote);
+    let [device, other_device] = port_words(row.ports.device);
+    [
+        u64::from(row.accepts),
+        range_word(row.direction.low, row.direction.high),
+        EMPTY,
+        range_word(row.protocols.low, row.protocols.high),
+        EMPTY,
+        range_word(row.openers.low, row.openers.high),
+        EMPTY,
+        range_word(row.networks.low, row.networks.high),
+        EMPTY,
+        remote,
+        other_remote,
+        device,
+        other_device,
+    ]
 }
 
 pub fn put_row(work: &mut [u64], at: usize, row: Row) -> usize
@@ -155,48 +130,27 @@ pub fn put_row(work: &mut [u64], at: usize, row: Row) -> usize
     ensures put { Put work.old at (row_words row) result work.new }
     ensures value { result ≡ at + 13 }
 {
-    let p = put_front(work, at, row);
-    put_back(work, p, row)
+    put_words(work, at, &row_words(row))
 }
 
 // Word 13 and those after it: how many names there are, and their masks.
-fn put_limits(
-    s: &[u8],
-    site: &[u8],
-    places: &[u64],
-    work: &mut [u64],
-    at: usize,
-    found: Found,
-    e: Parts,
-    d: Direction,
-    url: usize,
-) -> usize
-    requires { PlacesOf site.now places.now × (at ≤ 1900) × Held s.now found e }
-    ensures { Put work.old at (limit_words d site.now (bytes_at s.now url) (seen (tree_at 9 s.now) found)) result work.new }
+fn put_limits(work: &mut [u64], at: usize, m: &Matches, to: &Setting) -> usize
+    requires { at ≤ 1900 }
+    ensures { Put work.old at (limit_words to.now.direction to.now.site.now (bytes_at m.now.s.now to.now.url) (seen (tree_at 9 m.now.s.now) m.now.found)) result work.new }
 {
     let first = at + 1;
-    let end = put_names(s, site, places, work, first, found, e, d, url);
+    let end = put_names(work, first, m, to);
     put_word(work, at, (end - first) as u64);
     end
 }
 
-// The rule of the entry whose parts these are; the place after it.
-pub fn put_rule(
-    s: &[u8],
-    site: &[u8],
-    places: &[u64],
-    work: &mut [u64],
-    at: usize,
-    entry: usize,
-    e: Parts,
-    d: Direction,
-    url: usize,
-) -> usize
-    requires { PlacesOf site.now places.now × (at ≤ 1800) × PartsOf s.now entry e }
-    ensures { Put work.old at (rule_words d site.now (bytes_at s.now url) (tree_at 10 s.now entry)) result work.new }
+// The rule of an entry; the place after it.
+pub fn put_rule(work: &mut [u64], at: usize, e: &Entry, to: &Setting) -> usize
+    requires { at ≤ 1800 }
+    ensures { Put work.old at (rule_words to.now.direction to.now.site.now (bytes_at e.now.s.now to.now.url) (tree_at 10 e.now.s.now e.now.at)) result work.new }
 {
-    let found = e.matches;
-    let row = row_of(s, is_accepted(s, entry, e), found, e, d);
+    let m = e.matches;
+    let row = row_of(is_accepted(e), &m, to.direction);
     let p = put_row(work, at, row);
-    put_limits(s, site, places, work, p, found, e, d, url)
+    put_limits(work, p, &m, to)
 }

@@ -1,13 +1,13 @@
 -- MUD URLs, and how names are compared (document 01, 'Site table').
-use Rattle.std.specs.Prelude.{ℕ, List, [], ◌∷◌, Bool, true, ◌&&◌, ◌||◌, cond, length, drop, ltb, leb, eqb}
+use Rattle.std.specs.Prelude.{ℕ, List, [], ◌∷◌, Bool, ◌&&◌, ◌||◌, cond, length, drop, ltb, leb, eqb}
+use Rattle.std.specs.List.{list_all}
 use Rattle.text.specs.Bytes.{between}
 use Rattle.text.specs.Ascii.{ascii}
 use Rattle.text.specs.Words.{starts, same_bytes}
 
 -- "bytes from 0x21 to 0x7E"
-unfoldable pub printable : List ℕ → Bool
-printable [] = true
-printable (b ∷ bs) = between 0x21 0x7E b && printable bs
+abbrev pub printable : List ℕ → Bool
+printable u = list_all (between 0x21 0x7E) u
 
 -- `/`, `?` or `#`
 unfoldable pub ends_authority : ℕ → Bool

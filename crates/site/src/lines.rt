@@ -1,23 +1,21 @@
 // One line of the site table.
+#![tactic(auto, using(crate::proofs::Laws::lining), unfolding(crate::specs::Line::word_at, crate::specs::Line::kind_at, crate::specs::Line::suits, crate::specs::Line::name_ok, crate::specs::Line::rest_at, crate::specs::Line::line_at))]
+
 ghost use Rattle.std.specs.Prelude.{◌≡◌, ◌+◌, drop};
 ghost use Rattle.site.specs.Line.{word_at, kind_at, suits, name_length, name_ok, rest_at, line_at};
 
-use text::networks::Block;
+use crate::url::is_mud_url;
+use text::bytes::{is_at, is_between};
+use text::networks::network;
+use text::words;
 
-#[derive(Clone, Copy)]
+#[derive(Clone, Copy, Debug, PartialEq, Eq)]
 pub enum Kind {
     Host,
     Class,
     Mine,
     Local,
     Thing,
-}
-
-// A line's kind, and where its name begins.
-#[derive(Clone, Copy)]
-pub enum Kinded {
-    Is(Kind, usize),
-    NoKind,
 }
 
 // The name stands from `name` up to `end`; the next line begins at `after`.
@@ -31,114 +29,86 @@ pub struct SiteLine {
     pub after: usize,
 }
 
-#[derive(Clone, Copy)]
-pub enum Found {
-    Line(SiteLine),
-    Malformed,
-}
-
 fn is_word(s: &[u8], at: usize, word: &[u8]) -> bool
     ensures { result ≡ word_at word.now s.now at }
 {
-    if text::words::begins(s, at, word) {
-        if s.len() <= at {
-            return false;
-        }
-        return text::bytes::is_at(s, at + word.len(), b'\t');
-    }
-    false
+    words::begins(s, at, word) && at < s.len() && is_at(s, at + word.len(), b'\t')
 }
 
-fn kind_at(s: &[u8], at: usize) -> Kinded
+// A line's kind, and where its name begins.
+fn kind_at(s: &[u8], at: usize) -> Option<(Kind, usize)>
     ensures { result ≡ kind_at s.now at }
 {
     if is_word(s, at, b"host") {
-        return Kinded::Is(Kind::Host, at + 5);
+        Some((Kind::Host, at + 5))
+    } else if is_word(s, at, b"class") {
+        Some((Kind::Class, at + 6))
+    } else if is_word(s, at, b"mine") {
+        Some((Kind::Mine, at + 5))
+    } else if is_word(s, at, b"local") {
+        Some((Kind::Local, at + 6))
+    } else if is_word(s, at, b"thing") {
+        Some((Kind::Thing, at + 6))
+    } else {
+        None
     }
-    if is_word(s, at, b"class") {
-        return Kinded::Is(Kind::Class, at + 6);
-    }
-    if is_word(s, at, b"mine") {
-        return Kinded::Is(Kind::Mine, at + 5);
-    }
-    if is_word(s, at, b"local") {
-        return Kinded::Is(Kind::Local, at + 6);
-    }
-    if is_word(s, at, b"thing") {
-        return Kinded::Is(Kind::Thing, at + 6);
-    }
-    Kinded::NoKind
 }
 
 fn name_end(s: &[u8], at: usize) -> usize
     ensures { result ≡ at + name_length (drop at s.now) }
 {
-    let mut i = at;
-    while i < s.len() {
-        if !text::bytes::is_between(s[i], 0x21, 0x7e) {
+    for i in at..s.len() {
+        if !is_between(s[i], 0x21, 0x7e) {
             return i;
         }
-        i += 1;
     }
-    i
+    at.max(s.len())
 }
 
 fn suits_kind(kind: Kind, name: &[u8]) -> bool
     ensures { result ≡ suits kind name.now }
 {
     match kind {
-        Kind::Host => true,
-        Kind::Class => true,
-        Kind::Mine => crate::url::is_mud_url(name),
-        Kind::Local => text::words::same(name, b"-"),
-        Kind::Thing => crate::url::is_mud_url(name),
+        Kind::Host | Kind::Class => true,
+        Kind::Mine | Kind::Thing => is_mud_url(name),
+        Kind::Local => words::same(name, b"-"),
     }
 }
 
 fn is_name(kind: Kind, name: &[u8]) -> bool
     ensures { result ≡ name_ok kind name.now }
 {
-    if name.len() == 0 {
-        return false;
-    }
-    if name.len() > 255 {
-        return false;
-    }
-    suits_kind(kind, name)
+    0 < name.len() && name.len() <= 255 && suits_kind(kind, name)
 }
 
 // The tab, the network and the LF after a name.
-fn rest_at(s: &[u8], kind: Kind, name: usize, end: usize) -> Found
+fn rest_at(s: &[u8], kind: Kind, name: usize, end: usize) -> Option<SiteLine>
     ensures { result ≡ rest_at kind name end s.now }
 {
-    if !text::bytes::is_at(s, end, b'\t') {
-        return Found::Malformed;
+    if !is_at(s, end, b'\t') {
+        return None;
     }
-    let Block::Net(low, high, _, after) = text::networks::network(s, end + 1) else {
-        return Found::Malformed;
-    };
-    if !text::bytes::is_at(s, after, b'\n') {
-        return Found::Malformed;
+    let (net, after) = network(s, end + 1)?;
+    if !is_at(s, after, b'\n') {
+        return None;
     }
-    Found::Line(SiteLine {
-        kind: kind,
-        name: name,
-        end: end,
-        low: low,
-        high: high,
+    Some(SiteLine {
+        kind,
+        name,
+        end,
+        low: net.low,
+        high: net.high,
         after: after + 1,
     })
 }
 
-pub fn line_at(s: &[u8], at: usize) -> Found
+pub fn line_at(s: &[u8], at: usize) -> Option<SiteLine>
     ensures { result ≡ line_at s.now at }
 {
-    let Kinded::Is(kind, from) = kind_at(s, at) else {
-        return Found::Malformed;
-    };
+    let (kind, from) = kind_at(s, at)?;
     let end = name_end(s, from);
     if !is_name(kind, &s[from..end]) {
-        return Found::Malformed;
+        return None;
     }
     rest_at(s, kind, from, end)
 }

@@ -1,12 +1,14 @@
 // The site table as a whole.
+#![tactic(auto, using(crate::proofs::Laws::lining), unfolding(crate::specs::Site::judged))]
+
 ghost use Rattle.std.specs.Prelude.{◌≡◌};
 ghost use Rattle.site.specs.Site.{line_feeds, stop, judged};
 
-use crate::lines::Found;
+use crate::lines::line_at;
 
-#[derive(Clone, Copy)]
-pub enum Judged {
-    Sound,
+// Why a site table is refused.
+#[derive(Clone, Copy, Debug, PartialEq, Eq)]
+pub enum Fault {
     TooLong,
     MalformedAt(usize),
 }
@@ -14,15 +16,7 @@ pub enum Judged {
 fn line_feeds(s: &[u8]) -> usize
     ensures { result ≡ line_feeds s.now }
 {
-    let mut n = 0;
-    let mut i = s.len();
-    while i > 0 {
-        i -= 1;
-        if s[i] == b'\n' {
-            n += 1;
-        }
-    }
-    n
+    s.iter().filter(|b| **b == b'\n').count()
 }
 
 // Where the first malformed line begins, or the table ends.
@@ -30,30 +24,22 @@ fn stop_of(s: &[u8]) -> usize
     ensures { result ≡ stop s.now 0 }
 {
     let mut at = 0;
-    loop {
-        match crate::lines::line_at(s, at) {
-            Found::Malformed => {
-                return at;
-            }
-            Found::Line(l) => {
-                at = l.after;
-            }
-        }
+    while let Some(l) = line_at(s, at) {
+        at = l.after;
     }
+    at
 }
 
-pub fn judge(s: &[u8]) -> Judged
+pub fn judge(s: &[u8]) -> Result<(), Fault>
     ensures { result ≡ judged s.now }
 {
-    if s.len() > 8192 {
-        return Judged::TooLong;
-    }
-    if line_feeds(s) > 64 {
-        return Judged::TooLong;
+    if s.len() > 8192 || line_feeds(s) > 64 {
+        return Err(Fault::TooLong);
     }
     let at = stop_of(s);
     if at == s.len() {
-        return Judged::Sound;
+        Ok(())
+    } else {
+        Err(Fault::MalformedAt(at))
     }
-    Judged::MalformedAt(at)
 }

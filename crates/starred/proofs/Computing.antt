@@ -1,4 +1,6 @@
 -- The document's starred cases, from bytes to bytes: what one computed test has to show. Assumes nothing.
+use Rattle.std.specs.Prelude.{Err, Ok, Result, ⊤}
+use Rattle.gateway.specs.declared.Reason.{Reason}
 use Prim.Native.Nat.{ℕ, zero, suc, ◌-◌, ◌<◌}
 use mathlib.Core.Path.{◌≡◌, refl, sym, ap, ◌∙◌}
 use mathlib.Core.Bool.{Bool, true, false, not, ◌&&◌}
@@ -17,12 +19,10 @@ use Rattle.flows.specs.Cells.{cell_table, cuts_of}
 use Rattle.flows.proofs.Meaning.{same_table}
 use Rattle.flows.proofs.FlowRules.{by_elementary_intervals}
 use Rattle.site.specs.Site.{judged}
-use Rattle.site.specs.declared.table.Judged.TheVariants.{Sound}
 use Rattle.values.specs.Tree.{Json, tree_of}
 use Rattle.rules.specs.Read.{all_known, all_sound}
 use Rattle.rules.specs.Meaning.{lets}
 use Rattle.stored.specs.Text.{table_text}
-use Rattle.gateway.specs.declared.Answer.TheVariants.{Taken}
 use Rattle.gateway.specs.Answer.{table_for, answer_of, reply_after}
 use Rattle.gateway.specs.Order.{conditions}
 use Rattle.gateway.specs.Promise.{Keeps}
@@ -61,14 +61,14 @@ module _ (rules_for : Json → List ℕ → List Rule) where
 
 -- rules that let through what the file does
 module _ (rules_for : Json → List ℕ → List Rule)
-    (lets_rules : (file : Json) (site : List ℕ) → judged site ≡ Sound → all_known file ≡ true → all_sound file ≡ true → (p : Point) → lets file site p ≡ let_through (rules_for file site) p) where
+    (lets_rules : (file : Json) (site : List ℕ) → judged site ≡ Ok tt → all_known file ≡ true → all_sound file ≡ true → (p : Point) → lets file site p ≡ let_through (rules_for file site) p) where
   its_table : (file site : List ℕ) → Keeps file site 36864 16290 → table_by (rules_for (tree_of 16 file) site) ≡ table_for file site
   unfolding table_by table_for
   its_table file site k =
       by_elementary_intervals (rules_for (tree_of 16 file) site)
       ∙ same_table widths _ _ (λ p w. sym (lets_rules (tree_of 16 file) site k.sound_site k.known k.sound p))
 
-  its_answer : (file site : List ℕ) (count : ℕ) (lines : List ℕ) → holds rules_for file site count lines ≡ true → (answer_of file site 36864 16290 ≡ Taken count) × (reply_after file site 36864 16290 ≡ lines ++ replicate (36864 - length lines) 0)
+  its_answer : (file site : List ℕ) (count : ℕ) (lines : List ℕ) → holds rules_for file site count lines ≡ true → (answer_of file site 36864 16290 ≡ Ok count) × (reply_after file site 36864 16290 ≡ lines ++ replicate (36864 - length lines) 0)
   unfolding holds fits
   its_answer file site count lines e =
       let t : Table = table_by (rules_for (tree_of 16 file) site) in
@@ -79,7 +79,7 @@ module _ (rules_for : Json → List ℕ → List Rule)
       let q : t ≡ table_for file site = its_table file site k in
       let n : count ≡ length (table_for file site) = eqb-true count (length t) b.0 ∙ ap length q in
       let x : lines ≡ table_text (table_for file site) = (same_iff lines (table_text t)).0 d.1 ∙ ap table_text q in
-      let y : answer_of file site 36864 16290 ≡ Taken count = (taken_exactly_when file site 36864 16290 count).1 (k, omega (arith, leb-true count 512 d.0), n) in
+      let y : answer_of file site 36864 16290 ≡ Ok count = (taken_exactly_when file site 36864 16290 count).1 (k, omega (arith, leb-true count 512 d.0), n) in
       (y, taken_leaves_the_lines file site 36864 16290 count y ∙ ap {B = List ℕ} (λ l. l ++ replicate (36864 - length l) 0) (sym x))
 
   pub hold_true : (cs : List Case) → hold rules_for cs ≡ true → Hold cs

@@ -1,11 +1,11 @@
 -- SHUT OUT BY NAME (document 01, 'How much each promise must say'): no builder that keeps the promise is one of these. Assumes nothing.
+use Rattle.std.specs.Prelude.{Err, Ok, Result}
 use Prim.Native.Nat.{ℕ}
 use mathlib.Core.Path.{◌≡◌, sym, ap, ◌∙◌}
 use mathlib.Core.List.{List, [], ◌∷◌}
 use native.Mathlib.Omega.{arith}
 use lib.ListN.{length, get_or}
 use Rattle.gateway.specs.declared.Reason.{Reason}
-use Rattle.gateway.specs.declared.Answer.TheVariants.{Taken, Refused}
 use Rattle.gateway.specs.Answer.{table_for, sized, answer_of, reply_after}
 use Rattle.gateway.specs.Promise.{Builder, Meets}
 use Rattle.starred.specs.Cases.{Hold, cases, no_policies, everything, both_ways, program, program_with_drop, cloud_site}
@@ -14,7 +14,7 @@ use Rattle.starred.proofs.Cases.{cases_hold}
 
 module _ (b : Builder) (m : Meets b) where
   -- "one that invents the line count (2: it is the number of lines of the table defined above)"
-  pub invents_no_count : (file site reply work : List ℕ) (n : ℕ) → (b file site reply work).answer ≡ Taken n → n ≡ length (table_for file site)
+  pub invents_no_count : (file site reply work : List ℕ) (n : ℕ) → (b file site reply work).answer ≡ Ok n → n ≡ length (table_for file site)
   invents_no_count file site reply work n e = ((taken_exactly_when file site (length reply) (length work) n).0 (sym (m file site reply work).answer ∙ e)).2
 
   -- "one that leaves the buffer untouched (1 and 2)": shown where a buffer of one byte is refused
@@ -36,14 +36,14 @@ module _ (b : Builder) (m : Meets b) where
     writes file site = (m file site reply work).bytes ∙ rw (r, w)
 
     -- "a builder that refuses everything (demand 2, taken exactly when)"
-    pub takes_something : ¬ ((file site : List ℕ) → (x : Reason) × ((b file site reply work).answer ≡ Refused x))
+    pub takes_something : ¬ ((file site : List ℕ) → (x : Reason) × ((b file site reply work).answer ≡ Err x))
     unfolding cases
     takes_something f =
-        let q : Taken 0 ≡ Refused (f no_policies []).0 = sym h.0 ∙ (sym (answers no_policies []) ∙ (f no_policies []).1) in
+        let q : ◌≡◌ {A = Result ℕ Reason} (Ok 0) (Err (f no_policies []).0) = sym h.0 ∙ (sym (answers no_policies []) ∙ (f no_policies []).1) in
         let z : ◌≡◌ {A = ℕ} 0 1 = cc in omega arith
 
     -- "one that writes one fixed table (2; and 3 rests on 2's flows)"
-    pub no_fixed_table : (fixed : List ℕ) → ¬ ((file site : List ℕ) (n : ℕ) → (b file site reply work).answer ≡ Taken n → (b file site reply work).bytes ≡ fixed)
+    pub no_fixed_table : (fixed : List ℕ) → ¬ ((file site : List ℕ) (n : ℕ) → (b file site reply work).answer ≡ Ok n → (b file site reply work).bytes ≡ fixed)
     unfolding cases
     no_fixed_table fixed f =
         let x = f no_policies [] 0 (answers no_policies [] ∙ h.0) in
@@ -55,7 +55,7 @@ module _ (b : Builder) (m : Meets b) where
     pub reads_every_entry : ¬ ((b program_with_drop cloud_site reply work).answer ≡ (b program cloud_site reply work).answer)
     unfolding cases
     reads_every_entry e =
-        let q : Taken 2 ≡ Taken 3 = sym h.2.2.2.2.2.2.2.2.0 ∙ (sym (answers program_with_drop cloud_site) ∙ (e ∙ (answers program cloud_site ∙ h.2.2.2.2.2.2.2.0))) in
+        let q : ◌≡◌ {A = Result ℕ Reason} (Ok 2) (Ok 3) = sym h.2.2.2.2.2.2.2.2.0 ∙ (sym (answers program_with_drop cloud_site) ∙ (e ∙ (answers program cloud_site ∙ h.2.2.2.2.2.2.2.0))) in
         let z : ◌≡◌ {A = ℕ} 2 3 = cc in omega arith
 
     pub reads_every_list : ¬ ((b both_ways [] reply work).bytes ≡ (b everything [] reply work).bytes)

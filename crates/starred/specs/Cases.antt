@@ -1,8 +1,9 @@
 -- THE STARRED CASES of document 01, 'On both sides of the line', byte for byte: a file, a site table, the line count and the lines.
 -- proofs/Cases.antt proves them.
+use Rattle.std.specs.Prelude.{Err, Ok, Result}
+use Rattle.gateway.specs.declared.Reason.{Reason}
 use Rattle.std.specs.Prelude.{ℕ, ◌-◌, ◌≡◌, List, [], ◌∷◌, ◌++◌, length, replicate}
 use Rattle.text.specs.Ascii.{ascii}
-use Rattle.gateway.specs.declared.Answer.TheVariants.{Taken}
 use Rattle.gateway.specs.Answer.{answer_of, reply_after}
 
 -- file, site table, line count, lines
@@ -13,7 +14,7 @@ pub data Case : Type 0 where
 abbrev pub Hold : List Case → Type 0
 Hold [] = Unit {0}
 Hold (takes file site count lines ∷ cs) =
-    (answer_of file site 36864 16290 ≡ Taken count)
+    (answer_of file site 36864 16290 ≡ Ok count)
     × (reply_after file site 36864 16290 ≡ lines ++ replicate (36864 - length lines) 0)
     × Hold cs
 

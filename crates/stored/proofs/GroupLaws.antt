@@ -32,6 +32,12 @@ unfolding differ_of
 differ_self [] = refl
 differ_self (r ∷ x) = rw (eq_range_refl r, differ_of, differ_self x)
 
+pub differ_within : (x y : Line) → differ_of x y ≤ length x
+unfolding differ_of
+differ_within [] y = omega arith
+differ_within (r ∷ x) [] = omega arith
+differ_within (r ∷ x) (q ∷ y) = by_test (eq_range r q) (λ e. rw (e, differ_of) (omega (arith, differ_within x y))) (λ e. rw (e, differ_of) (omega arith))
+
 pub alike_trans : (d : ℕ) (x y z : Line) → d ≤ differ_of x y → d ≤ differ_of y z → d ≤ differ_of x z
 unfolding differ_of
 alike_trans zero x y z h k = omega arith

@@ -1,4 +1,3 @@
-pub mod LineLaws
 pub mod WordLaws
 pub mod GroupLaws
 pub mod ReadLines

@@ -21,7 +21,7 @@ use Rattle.stored.specs.Line.{ranges}
 use Rattle.stored.proofs.Spelling.{Read-as, as_read}
 use Rattle.stored.specs.Text.{nth, range_text, address_text, line_text, table_text}
 use Rattle.stored.specs.Words.{Fits}
-use Rattle.stored.specs.Writing.{front_parts, back_parts}
+use Rattle.stored.specs.Writing.{range_parts, quad_parts}
 
 -- ## room for what is put, part after part
 pub room_first : (at n : ℕ) (xs ys : List ℕ) → at + length (xs ++ ys) ≤ n → at + length xs ≤ n
@@ -51,40 +51,65 @@ module _ {l m : List ℕ} {at p : ℕ} {xs : List ℕ} (ys : List ℕ) (close : 
       pub range_put : {u : List ℕ} {s : ℕ} → Put t r (close ∷ []) s u → Put l at (xs ++ (0x2D ∷ (ys ++ (close ∷ [])))) s u
       range_put d = and_then a (and_then b (and_then c d))
 
--- three ranges
-module _ {l m : List ℕ} {at p : ℕ} {xs : List ℕ} (ys zs : List ℕ) (h : at + length (xs ++ (ys ++ zs)) ≤ length l) (a : Put l at xs p m) where
-  after_first : p + length (ys ++ zs) ≤ length m
-  after_first = room_next (ys ++ zs) a h
+-- ## a line: what is put from each range on
+abbrev from_2 : struct.Line → List ℕ
+from_2 x = range_parts 0x09 x.protocol ++ (range_parts 0x09 x.opener ++ (quad_parts 0x09 x.address ++ (range_parts 0x09 x.remote ++ range_parts 0x0A x.device)))
 
-  pub room_second : p + length ys ≤ length m
-  room_second = room_first p (length m) ys zs after_first
+abbrev from_3 : struct.Line → List ℕ
+from_3 x = range_parts 0x09 x.opener ++ (quad_parts 0x09 x.address ++ (range_parts 0x09 x.remote ++ range_parts 0x0A x.device))
 
-  module _ {o : List ℕ} {q : ℕ} (b : Put m p ys q o) where
-    pub room_third : q + length zs ≤ length o
-    room_third = room_next zs b after_first
+abbrev from_4 : struct.Line → List ℕ
+from_4 x = quad_parts 0x09 x.address ++ (range_parts 0x09 x.remote ++ range_parts 0x0A x.device)
 
-    pub three_put : {t : List ℕ} {r : ℕ} → Put o q zs r t → Put l at (xs ++ (ys ++ zs)) r t
-    three_put c = and_then a (and_then b c)
+abbrev from_5 : struct.Line → List ℕ
+from_5 x = range_parts 0x09 x.remote ++ range_parts 0x0A x.device
 
--- ## a line
 module _ (x : struct.Line) where
-  line_parts : line_text (ranges x) ≡ front_parts x.direction x.protocol x.opener ++ back_parts x.address x.remote x.device
+  line_parts : line_text (ranges x) ≡ range_parts 0x09 x.direction ++ from_2 x
   unfolding line_text range_text address_text nth ranges
   line_parts = simp append_assoc
 
   module _ (l : List ℕ) (at : ℕ) (h : at + length (line_text (ranges x)) ≤ length l) where
-    in_parts : at + length (front_parts x.direction x.protocol x.opener ++ back_parts x.address x.remote x.device) ≤ length l
-    in_parts = subst (λ (t : List ℕ). at + length t ≤ length l) line_parts h
+    left_1 : at + length (range_parts 0x09 x.direction ++ from_2 x) ≤ length l
+    left_1 = subst (λ (t : List ℕ). at + length t ≤ length l) line_parts h
 
-    pub room_front : at + length (front_parts x.direction x.protocol x.opener) ≤ length l
-    room_front = room_first at (length l) (front_parts x.direction x.protocol x.opener) (back_parts x.address x.remote x.device) in_parts
+    pub room_1 : at + length (range_parts 0x09 x.direction) ≤ length l
+    room_1 = room_first at (length l) (range_parts 0x09 x.direction) (from_2 x) left_1
 
-    module _ {p : ℕ} {m : List ℕ} (a : Put l at (front_parts x.direction x.protocol x.opener) p m) where
-      pub room_back : p + length (back_parts x.address x.remote x.device) ≤ length m
-      room_back = room_next (back_parts x.address x.remote x.device) a in_parts
+    module _ {i : ℕ} {b : List ℕ} (put₁ : Put l at (range_parts 0x09 x.direction) i b) where
+      left_2 : i + length (from_2 x) ≤ length b
+      left_2 = room_next (from_2 x) put₁ left_1
 
-      pub line_put : {r : ℕ} {o : List ℕ} → Put m p (back_parts x.address x.remote x.device) r o → Put l at (line_text (ranges x)) r o
-      line_put b = rw line_parts (and_then a b)
+      pub room_2 : i + length (range_parts 0x09 x.protocol) ≤ length b
+      room_2 = room_first i (length b) (range_parts 0x09 x.protocol) (from_3 x) left_2
+
+      module _ {j : ℕ} {c : List ℕ} (put₂ : Put b i (range_parts 0x09 x.protocol) j c) where
+        left_3 : j + length (from_3 x) ≤ length c
+        left_3 = room_next (from_3 x) put₂ left_2
+
+        pub room_3 : j + length (range_parts 0x09 x.opener) ≤ length c
+        room_3 = room_first j (length c) (range_parts 0x09 x.opener) (from_4 x) left_3
+
+        module _ {k : ℕ} {d : List ℕ} (put₃ : Put c j (range_parts 0x09 x.opener) k d) where
+          left_4 : k + length (from_4 x) ≤ length d
+          left_4 = room_next (from_4 x) put₃ left_3
+
+          pub room_4 : k + length (quad_parts 0x09 x.address) ≤ length d
+          room_4 = room_first k (length d) (quad_parts 0x09 x.address) (from_5 x) left_4
+
+          module _ {m : ℕ} {e : List ℕ} (put₄ : Put d k (quad_parts 0x09 x.address) m e) where
+            left_5 : m + length (from_5 x) ≤ length e
+            left_5 = room_next (from_5 x) put₄ left_4
+
+            pub room_5 : m + length (range_parts 0x09 x.remote) ≤ length e
+            room_5 = room_first m (length e) (range_parts 0x09 x.remote) (range_parts 0x0A x.device) left_5
+
+            module _ {n : ℕ} {f : List ℕ} (put₅ : Put e m (range_parts 0x09 x.remote) n f) where
+              pub room_6 : n + length (range_parts 0x0A x.device) ≤ length f
+              room_6 = room_next (range_parts 0x0A x.device) put₅ left_5
+
+              pub line_put : {r : ℕ} {o : List ℕ} → Put f n (range_parts 0x0A x.device) r o → Put l at (line_text (ranges x)) r o
+              line_put put₆ = rw line_parts (and_then put₁ (and_then put₂ (and_then put₃ (and_then put₄ (and_then put₅ put₆)))))
 
 -- ## lengths
 ends_long : (k lo hi : ℕ) → lo < 10 ^ suc k → hi < 10 ^ suc k → length (range_text (lo to hi)) ≤ suc k + suc k + 1
@@ -159,4 +184,4 @@ table_long (l ∷ t) h = rw (length-append (line_text l) (table_text t)) (omega 
 pub table_fits : (t : Table) → Fits t → length t ≤ 512 → length (table_text t) ≤ 36864
 table_fits t h k = omega (arith, table_long t h)
 
-pub ruleset putting = (rules, room_first, room_dash, room_high, room_close, range_put, room_second, room_third, three_put, room_front, room_back, line_put)
+pub ruleset putting = (rules, room_first, room_dash, room_high, room_close, range_put, room_1, room_2, room_3, room_4, room_5, room_6, line_put)

@@ -8,6 +8,8 @@ use native.Mathlib.Omega.{arith}
 use lib.ListN.{length, drop, replicate, length-append, length-replicate}
 use lib.Dec.{eqb, leb}
 use borrow.Author.Tests.{eq-eqb, eqb-true, leb-true, le-leb}
+use Rattle.std.specs.Prelude.{Option, Some, None, Ok}
+use Rattle.std.proofs.lemmas.Option.{some_pair_parts}
 use Rattle.text.specs.Bytes.{between}
 use Rattle.text.specs.Numbers.{number_at, closed_by}
 use Rattle.text.proofs.Tests.{and_left, and_right, both, split}
@@ -19,18 +21,15 @@ use Rattle.flows.specs.declared.Numbers as numbers
 use Rattle.flows.proofs.Meaning.{in_table_lem}
 use Rattle.flows.proofs.Stored.{table_lines, table_of_some_flows}
 use Rattle.stored.specs.declared.lines.Line as struct
-use Rattle.stored.specs.declared.lines.Half.TheVariants.{Three, NoHalf}
-use Rattle.stored.specs.declared.lines.Read.{Read}
-use Rattle.stored.specs.declared.lines.Read.TheVariants.{Got, NoLine}
 use Rattle.stored.specs.declared.answer.Verdict.TheVariants.{Accept, Drop}
-use Rattle.stored.specs.Line.{range_at, front_at, back_at, flows_of, line_at, ranges}
+use Rattle.stored.specs.Line.{pair_at, fields_at, flows_of, line_at, ranges}
 use Rattle.stored.specs.Text.{line_text, table_text, reply_of}
 use Rattle.stored.specs.Words.{Fits}
 use Rattle.stored.specs.Stored.{lines, stop, all_zero, stored_of, verdict_of}
 use Rattle.stored.proofs.ReadLines.{SoundLine, got_sound, lines_none, lines_got, stop_none, stop_got}
 use Rattle.stored.proofs.Gathering.{zero_byte, zero_line}
 use Rattle.stored.proofs.Putting.{table_fits}
-use Rattle.stored.proofs.Spelling.{line_spelt, ReadsHalves, halves_read, line_read, Read-as, as_read}
+use Rattle.stored.proofs.Spelling.{line_spelt, ReadsLine, fields_read, line_read, Read-as, as_read}
 
 -- ## what is read is spelt so
 record Spelt (s : List ℕ) (at : ℕ) : Type 0 where
@@ -42,9 +41,9 @@ unfolding table_text all_lines
 lines_spelt zero s at h = absurd (omega arith)
 lines_spelt (suc k) s at h = go (line_at s at) refl (λ n m. lines_spelt k s n m)
   where
-    go : (r : Read) → r ≡ line_at s at → ((n : ℕ) → length s - n < k → Spelt s n) → Spelt s at
-    go NoLine e f = record { text = rw (lines_none s at e, stop_none s at e); flow = rw (lines_none s at e) }
-    go (Got l n) e f =
+    go : (r : Option (struct.Line × ℕ)) → r ≡ line_at s at → ((n : ℕ) → length s - n < k → Spelt s n) → Spelt s at
+    go None e f = record { text = rw (lines_none s at e, stop_none s at e); flow = rw (lines_none s at e) }
+    go (Some (l, n)) e f =
         let m : SoundLine s at l n = got_sound s at e in
         let r : Spelt s n = f n (omega (arith, m.further, m.within)) in
         record {
@@ -66,21 +65,21 @@ module _ (s : List ℕ) (at : ℕ) (l : Line) (rest : List ℕ) (h : LineIn widt
   own : Read-as l
   own = as_read l h
 
-  own_read : ReadsHalves s at own.line rest
-  own_read = halves_read s at own.line rest (subst (LineIn widths) (sym own.is) h) (e ∙ ap {B = List ℕ} (λ x. line_text x ++ rest) (sym own.is))
+  own_read : ReadsLine s at own.line rest
+  own_read = fields_read s at own.line rest (subst (LineIn widths) (sym own.is) h) (e ∙ ap {B = List ℕ} (λ x. line_text x ++ rest) (sym own.is))
 
-  own_line : flow_line l ≡ true → Got own.line own_read.n ≡ line_at s at
+  own_line : flow_line l ≡ true → Some (own.line, own_read.n) ≡ line_at s at
   own_line k = line_read s at own.line rest (flow_of own.line (ap flow_line own.is ∙ k)) own_read
 
 lines_read : (s : List ℕ) (at : ℕ) (t : Table) (zs : List ℕ) → Fits t → all_lines flow_line t ≡ true → all_zero zs ≡ true → drop at s ≡ table_text t ++ zs → Found s at t zs
 unfolding table_text all_lines
 lines_read s at [] zs a f z e =
-    let q : NoLine ≡ line_at s at = zero_line s at (ap all_zero e ∙ z) in
+    let q : None ≡ line_at s at = zero_line s at (ap all_zero e ∙ z) in
     record { are = lines_none s at q; after = rw (stop_none s at q) e }
 lines_read s at (l ∷ t) zs a f z e =
     let k = split (flow_line l) (all_lines flow_line t) f in
     let d : drop at s ≡ line_text l ++ (table_text t ++ zs) = e ∙ append_assoc (line_text l) (table_text t) zs in
-    let q : Got (own s at l (table_text t ++ zs) a.0 d).line (own_read s at l (table_text t ++ zs) a.0 d).n ≡ line_at s at = own_line s at l (table_text t ++ zs) a.0 d k.0 in
+    let q : Some ((own s at l (table_text t ++ zs) a.0 d).line, (own_read s at l (table_text t ++ zs) a.0 d).n) ≡ line_at s at = own_line s at l (table_text t ++ zs) a.0 d k.0 in
     let m : Found s (own_read s at l (table_text t ++ zs) a.0 d).n t zs = lines_read s (own_read s at l (table_text t ++ zs) a.0 d).n t zs a.1 k.1 z (own_read s at l (table_text t ++ zs) a.0 d).after in
     record {
       are = lines_got s at q ∙ (ap {B = Table} (λ x. x ∷ lines s (own_read s at l (table_text t ++ zs) a.0 d).n) (own s at l (table_text t ++ zs) a.0 d).is ∙ ap {B = Table} (λ x. l ∷ x) m.are);
@@ -154,7 +153,7 @@ stored_iff s = (there, back)
         ∙ reply_stored (table_of widths r.0) r.1.few (table_lines widths r.0) ((table_of_some_flows (table_of widths r.0)).1 (r.0, r.1.flows, refl))
 
 -- THE VERDICT OF A WRITTEN TABLE IS THE SET'S OWN
-pub verdict_of_set : (S : Set) → Stores S → (f : numbers.Numbers) → is_flow (point_of f) ≡ true → verdict_of (reply_of (table_of widths S)) f ≡ cond (S (point_of f)) Accept Drop
+pub verdict_of_set : (S : Set) → Stores S → (f : numbers.Numbers) → is_flow (point_of f) ≡ true → verdict_of (reply_of (table_of widths S)) f ≡ Ok (cond (S (point_of f)) Accept Drop)
 unfolding verdict_of
 verdict_of_set S h f e =
     let w : table_of_flows (table_of widths S) ≡ true = (table_of_some_flows (table_of widths S)).1 (S, h.flows, refl) in
@@ -164,33 +163,24 @@ verdict_of_set S h f e =
     is_within p e = unfold is_flow in and_left (within widths p) _ e
 
 -- ## equal replies
-no_front : (s : List ℕ) (at : ℕ) → all_zero (drop at s) ≡ true → NoHalf ≡ front_at s at
-unfolding front_at range_at closed_by number_at between
-no_front s at e = rw (zero_byte s at e)
-
-by_ranges : (l m : struct.Line) → l.direction ≡ m.direction → l.protocol ≡ m.protocol → l.opener ≡ m.opener → l.address ≡ m.address → l.remote ≡ m.remote → l.device ≡ m.device → ranges l ≡ ranges m
-unfolding ranges
-by_ranges l m a b c d e f = rw (a, b, c, d, e, f)
+no_fields : (s : List ℕ) (at : ℕ) → all_zero (drop at s) ≡ true → None ≡ fields_at s at
+unfolding fields_at pair_at closed_by number_at between
+no_fields s at e = rw (zero_byte s at e)
 
 -- two lines that are spelt at one place are the same, and end at one place
-module _ (s : List ℕ) (at : ℕ) (l m : struct.Line) (xs ys : List ℕ) (a : ReadsHalves s at l xs) (b : ReadsHalves s at m ys) where
-  same_line : (ranges l ≡ ranges m) × (a.n ≡ b.n)
-  same_line =
-      let p : Three l.direction l.protocol l.opener a.i ≡ Three m.direction m.protocol m.opener b.i = sym a.front ∙ b.front in
-      let i : a.i ≡ b.i = cc in
-      let q : Three l.address l.remote l.device a.n ≡ Three m.address m.remote m.device b.n = sym a.back ∙ (ap (back_at s) i ∙ b.back) in
-      (by_ranges l m (cc) (cc) (cc) (cc) (cc) (cc), cc)
+same_line : (s : List ℕ) (at : ℕ) (l m : struct.Line) (xs ys : List ℕ) (a : ReadsLine s at l xs) (b : ReadsLine s at m ys) → (l ≡ m) × (a.n ≡ b.n)
+same_line s at l m xs ys a b = some_pair_parts l m a.n b.n (sym a.is ∙ b.is)
 
 same_tables : (s : List ℕ) (at : ℕ) (t u : Table) (xs ys : List ℕ) → Fits t → Fits u → all_zero xs ≡ true → all_zero ys ≡ true → drop at s ≡ table_text t ++ xs → drop at s ≡ table_text u ++ ys → t ≡ u
 unfolding table_text
 same_tables s at [] [] xs ys a b z y p q = refl
 same_tables s at [] (m ∷ u) xs ys a b z y p q =
     absurd (let r = own_read s at m (table_text u ++ ys) b.0 (q ∙ append_assoc (line_text m) (table_text u) ys) in
-    let k : NoHalf ≡ Three _ _ _ r.i = no_front s at (ap all_zero p ∙ z) ∙ r.front in
+    let k : None ≡ Some (_, r.n) = no_fields s at (ap all_zero p ∙ z) ∙ r.is in
     let w : ◌≡◌ {A = ℕ} 0 1 = cc in omega arith)
 same_tables s at (l ∷ t) [] xs ys a b z y p q =
     absurd (let r = own_read s at l (table_text t ++ xs) a.0 (p ∙ append_assoc (line_text l) (table_text t) xs) in
-    let k : NoHalf ≡ Three _ _ _ r.i = no_front s at (ap all_zero q ∙ y) ∙ r.front in
+    let k : None ≡ Some (_, r.n) = no_fields s at (ap all_zero q ∙ y) ∙ r.is in
     let w : ◌≡◌ {A = ℕ} 0 1 = cc in omega arith)
 same_tables s at (l ∷ t) (m ∷ u) xs ys a b z y p q =
     let d : drop at s ≡ line_text l ++ (table_text t ++ xs) = p ∙ append_assoc (line_text l) (table_text t) xs in
@@ -198,7 +188,7 @@ same_tables s at (l ∷ t) (m ∷ u) xs ys a b z y p q =
     let f = own_read s at l (table_text t ++ xs) a.0 d in
     let g = own_read s at m (table_text u ++ ys) b.0 e in
     let h = same_line s at _ _ (table_text t ++ xs) (table_text u ++ ys) f g in
-    let i : l ≡ m = sym (own s at l (table_text t ++ xs) a.0 d).is ∙ (h.0 ∙ (own s at m (table_text u ++ ys) b.0 e).is) in
+    let i : l ≡ m = sym (own s at l (table_text t ++ xs) a.0 d).is ∙ (ap ranges h.0 ∙ (own s at m (table_text u ++ ys) b.0 e).is) in
     let j : t ≡ u = same_tables s f.n t u xs ys a.1 b.1 z y f.after (ap {B = List ℕ} (λ x. drop x s) h.1 ∙ g.after) in
     cc
 

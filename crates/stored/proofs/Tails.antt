@@ -4,11 +4,14 @@ use native.Mathlib.Omega.{arith}
 use mathlib.Core.Path.{◌≡◌, refl, ap, ap₂, sym, ◌∙◌, subst}
 use mathlib.Core.List.{List, [], ◌∷◌, ◌++◌, reverse, reverse_aux, reverse_aux-append, reverse_aux-eq, reverse-append, reverse-reverse}
 use mathlib.Core.Bool.{Bool, true, false, ◌&&◌, cond, and-true, and_assoc, and_comm}
-use lib.ListN.{length, get_or, take, drop, length-append, length-drop}
-use lib.Seq.{take-suc, take-add, take-append_seam}
+use lib.ListN.{length, take, drop, length-append, length-drop}
+use lib.Seq.{take-add, take-append_seam}
 use lib.Dec.{eqb, leb, ltb}
 use borrow.Author.Rules.{rules}
 use borrow.Author.Tests.{eq-eqb, ne_eqb, eqb-true, leb-true, leb-false, le-leb, lt-leb}
+use Rattle.std.proofs.lemmas.List.{take-append-drop, nil_from_length}
+use Rattle.std.proofs.lemmas.List.Sums.{sum_by-cons}
+use Rattle.std.proofs.lemmas.Option.{some_pair_parts}
 use Rattle.text.specs.Bytes.{between}
 use Rattle.text.specs.Words.{same_bytes}
 use Rattle.text.specs.Written.{decimal_by, decimal, quad}
@@ -19,12 +22,10 @@ use Rattle.flows.specs.Flow.{widths}
 use Rattle.flows.specs.Canonical.{LineIn}
 use Rattle.flows.proofs.Equal.{eq_range_eq, eq_range_refl}
 use Rattle.stored.specs.declared.lines.Line as struct
-use Rattle.stored.specs.declared.lines.Ends.TheVariants.{Between}
 use Rattle.stored.specs.Line.{range_at, quads_at, ranges}
 use Rattle.stored.specs.Words.{range_of}
 use Rattle.stored.specs.Text.{nth, range_text, address_text, line_text}
-use Rattle.stored.specs.Chunks.{FourAt, EightAt}
-use Rattle.stored.specs.Marks.{EndsAt, same_back, eight_back, tab_of, tabs_in}
+use Rattle.stored.specs.Marks.{EndsAt, same_back, tabs_of}
 use Rattle.stored.proofs.ReadLines.{SoundLine, got_sound, Within}
 use Rattle.stored.proofs.Spelling.{line_spelt, ReadsEnds, range_read, quads_read}
 
@@ -35,128 +36,85 @@ no_more [] ys = refl
 no_more (x ∷ xs) [] = refl
 no_more (x ∷ xs) (y ∷ ys) = refl
 
-module _ (s : List ℕ) where
-  last_first : (i : ℕ) → i < length s → reverse (take (suc i) s) ≡ get_or s i 0 ∷ reverse (take i s)
-  last_first i h = ap reverse (take-suc s i 0 h) ∙ reverse-append (take i s) (get_or s i 0 ∷ [])
+-- what is taken off the end of a text comes first in its reverse
+parts_back : (xs p x : List ℕ) → xs ≡ p ++ x → reverse xs ≡ reverse x ++ reverse p
+parts_back xs p x e = ap reverse e ∙ reverse-append p x
 
-  module _ (i j left : ℕ) (v : Bool) (e : v ≡ same_back left (reverse (take i s)) (reverse (take j s))) where
-    pub alike_end : left ≤ 0 → true ≡ v
-    alike_end h = let z : left ≡ 0 = omega arith in sym (e ∙ rw z (no_more (reverse (take i s)) (reverse (take j s))))
+-- byte by byte
+module _ (xs ys : List ℕ) (left : ℕ) (v : Bool) (e : v ≡ same_back left (reverse xs) (reverse ys)) where
+  pub alike_end : left ≤ 0 → true ≡ v
+  alike_end h = let z : left ≡ 0 = omega arith in sym (e ∙ rw z (no_more (reverse xs) (reverse ys)))
 
-    module _ (h : 0 < left) where
-      some : eqb left 0 ≡ false
-      some = ne_eqb left 0 (λ q. omega arith)
+  module _ (h : 0 < left) where
+    some : eqb left 0 ≡ false
+    some = ne_eqb left 0 (λ q. omega arith)
 
-      pub alike_first : i ≡ 0 → false ≡ v
+    pub alike_first : length xs ≡ 0 → false ≡ v
+    unfolding same_back
+    alike_first q = let z : xs ≡ [] = nil_from_length xs q in sym (e ∙ rw (z, some))
+
+    pub alike_second : length ys ≡ 0 → false ≡ v
+    unfolding same_back
+    alike_second q = let z : ys ≡ [] = nil_from_length ys q in go (reverse xs) (e ∙ ap (λ (t : List ℕ). same_back left (reverse xs) (reverse t)) z)
+      where
+        go : (us : List ℕ) → v ≡ same_back left us [] → false ≡ v
+        go [] k = sym (k ∙ some)
+        go (u ∷ us) k = sym (k ∙ some)
+
+    module _ (x y : ℕ) (p q : List ℕ) (a : xs ≡ p ++ (x ∷ [])) (b : ys ≡ q ++ (y ∷ [])) where
+      pub alike_other : (x ≡ y → ⊥) → false ≡ v
       unfolding same_back
-      alike_first q = sym (e ∙ rw (q, some))
+      alike_other f = sym (e ∙ rw (parts_back xs p (x ∷ []) a, parts_back ys q (y ∷ []) b, some, ne_eqb x y f))
 
-      module _ (a : i ≤ length s) (o : i ≡ 0 → ⊥) where
-        front : reverse (take i s) ≡ get_or s (i - 1) 0 ∷ reverse (take (i - 1) s)
-        front = let z : i ≡ suc (i - 1) = omega arith in ap (λ (k : ℕ). reverse (take k s)) z ∙ last_first (i - 1) (omega arith)
-
-        pub alike_second : j ≡ 0 → false ≡ v
-        unfolding same_back
-        alike_second q = sym (e ∙ rw (q, front, some))
-
-        module _ (b : j ≤ length s) (p : j ≡ 0 → ⊥) where
-          next : reverse (take j s) ≡ get_or s (j - 1) 0 ∷ reverse (take (j - 1) s)
-          next = let z : j ≡ suc (j - 1) = omega arith in ap (λ (k : ℕ). reverse (take k s)) z ∙ last_first (j - 1) (omega arith)
-
-          pub alike_other : (get_or s (i - 1) 0 ≡ get_or s (j - 1) 0 → ⊥) → false ≡ v
-          unfolding same_back
-          alike_other f = sym (e ∙ rw (front, next, some, ne_eqb (get_or s (i - 1) 0) (get_or s (j - 1) 0) f))
-
-          pub alike_on : get_or s (i - 1) 0 ≡ get_or s (j - 1) 0 → (k : ℕ) → k ≡ cond (eqb (get_or s (i - 1) 0) 0x09) (left - 1) left → v ≡ same_back k (reverse (take (i - 1) s)) (reverse (take (j - 1) s))
-          unfolding same_back
-          alike_on q k u = e ∙ rw (front, next, some, eq-eqb (get_or s (i - 1) 0) (get_or s (j - 1) 0) q, ← u)
+      pub alike_on : x ≡ y → (k : ℕ) → k ≡ cond (eqb x 0x09) (left - 1) left → v ≡ same_back k (reverse p) (reverse q)
+      unfolding same_back
+      alike_on g k u = e ∙ rw (parts_back xs p (x ∷ []) a, parts_back ys q (y ∷ []) b, some, eq-eqb x y g, ← u)
 
 -- eight bytes at once
-chunk : (us xs ys : List ℕ) (left : ℕ) → same_back left (us ++ xs) (us ++ ys) ≡ cond (leb left (tabs_in us)) true (same_back (left - tabs_in us) xs ys)
+tabs_cons : (x : ℕ) (xs : List ℕ) → tabs_of (x ∷ xs) ≡ cond (eqb x 0x09) 1 0 + tabs_of xs
+tabs_cons x xs = sum_by-cons (λ b. cond (eqb b 0x09) 1 0) x xs
+
+tabs_back : (xs r : List ℕ) → tabs_of (reverse_aux xs r) ≡ tabs_of xs + tabs_of r
+tabs_back [] r = omega arith
+tabs_back (x ∷ xs) r = tabs_back xs (x ∷ r) ∙ omega (arith, tabs_cons x xs, tabs_cons x r)
+
+chunk : (us xs ys : List ℕ) (left n : ℕ) → n ≡ tabs_of us → same_back left (us ++ xs) (us ++ ys) ≡ cond (leb left n) true (same_back (left - n) xs ys)
 unfolding same_back
-chunk [] xs ys left =
-    by_test (leb left 0)
-    (λ e. let z : left ≡ 0 = omega (arith, leb-true left 0 e) in rw e (rw z (no_more xs ys)))
-    (λ e. let z : left - 0 ≡ left = omega arith in rw (e, z))
-chunk (u ∷ us) xs ys left =
+chunk [] xs ys left n h =
+    by_test (leb left n)
+    (λ e. let z : left ≡ 0 = omega (arith, h, leb-true left n e) in rw e (rw z (no_more xs ys)))
+    (λ e. let z : left - n ≡ left = omega (arith, h) in rw (e, z))
+chunk (u ∷ us) xs ys left n h =
+    let k : n ≡ cond (eqb u 0x09) 1 0 + tabs_of us = h ∙ tabs_cons u us in
     by_test (eqb left 0)
-    (λ e. let z : left ≡ 0 = eqb-true left 0 e in let l : left ≤ tab_of u + tabs_in us = omega arith in rw (e, le-leb left (tab_of u + tabs_in us) l))
+    (λ e. let z : left ≡ 0 = eqb-true left 0 e in rw (e, le-leb left n (omega arith)))
     (λ e. by_test (eqb u 0x09)
-    (λ f. let a : leb (left - 1) (tabs_in us) ≡ leb left (1 + tabs_in us) = leb_less left (tabs_in us) (λ z. clash (eq-eqb left 0 z) e) in
-    let b : left - 1 - tabs_in us ≡ left - (1 + tabs_in us) = omega arith in
-    rw (e, eq-eqb u u refl, f) (chunk us xs ys (left - 1) ∙ rw (a, b)))
-    (λ f. let b : 0 + tabs_in us ≡ tabs_in us = omega arith in rw (e, eq-eqb u u refl, f, b) (chunk us xs ys left)))
+    (λ f. let j : n ≡ 1 + tabs_of us = rw f at k in
+    let a : leb (left - 1) (tabs_of us) ≡ leb left n = leb_less left (tabs_of us) n j (λ z. clash (eq-eqb left 0 z) e) in
+    let b : left - 1 - tabs_of us ≡ left - n = omega arith in
+    rw (e, eq-eqb u u refl, f) (chunk us xs ys (left - 1) (tabs_of us) refl ∙ rw (a, b)))
+    (λ f. let j : n ≡ 0 + tabs_of us = rw f at k in rw (e, eq-eqb u u refl, f) (chunk us xs ys left n (omega arith))))
   where
-    leb_less : (m n : ℕ) → (m ≡ 0 → ⊥) → leb (m - 1) n ≡ leb m (1 + n)
-    leb_less m n f =
-        by_test (leb m (1 + n))
-        (λ e. le-leb (m - 1) n (omega (arith, leb-true m (1 + n) e)) ∙ sym e)
-        (λ e. lt-leb (m - 1) n (omega (arith, leb-false m (1 + n) e, f)) ∙ sym e)
+    leb_less : (l m n : ℕ) → n ≡ 1 + m → (l ≡ 0 → ⊥) → leb (l - 1) m ≡ leb l n
+    leb_less l m n h f =
+        by_test (leb l n)
+        (λ e. le-leb (l - 1) m (omega (arith, leb-true l n e)) ∙ sym e)
+        (λ e. lt-leb (l - 1) m (omega (arith, leb-false l n e, f)) ∙ sym e)
 
-module _ (s : List ℕ) where
-  back_one : (k m : ℕ) → m ≡ suc k → k < length s → reverse (take m s) ≡ get_or s k 0 ∷ reverse (take k s)
-  back_one k m e h = ap (λ (j : ℕ). reverse (take j s)) e ∙ last_first s k h
+module _ (xs ys : List ℕ) (left : ℕ) (v : Bool) (e : v ≡ same_back left (reverse xs) (reverse ys)) (k m : ℕ) (n : ℕ) (u : n ≡ tabs_of (drop k xs)) (q : drop k xs ≡ drop m ys) where
+  both : v ≡ cond (leb left n) true (same_back (left - n) (reverse (take k xs)) (reverse (take m ys)))
+  both =
+      let a : reverse ys ≡ reverse (drop k xs) ++ reverse (take m ys) = parts_back ys (take m ys) (drop k xs) (sym (take-append-drop m ys) ∙ ap (λ (t : List ℕ). take m ys ++ t) (sym q)) in
+      let b : n ≡ tabs_of (reverse (drop k xs)) = u ∙ (omega (arith, tabs_back (drop k xs) [])) in
+      e ∙ (ap₂ (same_back left) (parts_back xs (take k xs) (drop k xs) (sym (take-append-drop k xs))) a ∙ chunk (reverse (drop k xs)) (reverse (take k xs)) (reverse (take m ys)) left n b)
 
-  back_eight : (k : ℕ) → k + 8 ≤ length s → reverse (take (k + 8) s) ≡ eight_back s k ++ reverse (take k s)
-  back_eight k h =
-      back_one (k + 7) (k + 8) (omega arith) (omega arith)
-      ∙ rw (back_one (k + 6) (k + 7) (omega arith) (omega arith), back_one (k + 5) (k + 6) (omega arith) (omega arith), back_one (k + 4) (k + 5) (omega arith) (omega arith), back_one (k + 3) (k + 4) (omega arith) (omega arith), back_one (k + 2) (k + 3) (omega arith) (omega arith), back_one (k + 1) (k + 2) (omega arith) (omega arith), back_one k (k + 1) (omega arith) (omega arith))
+  pub chunk_done : left ≤ n → true ≡ v
+  chunk_done l = sym (both ∙ rw (le-leb left n l))
 
-  -- equal numbers are of equal bytes
-  four_same : (p q x : ℕ) → FourAt s p x → FourAt s q x → (get_or s p 0 ≡ get_or s q 0) × (get_or s (p + 1) 0 ≡ get_or s (q + 1) 0) × (get_or s (p + 2) 0 ≡ get_or s (q + 2) 0) × (get_or s (p + 3) 0 ≡ get_or s (q + 3) 0)
-  four_same p q x a b = (
-    omega (arith, a.is, b.is, a.bytes, b.bytes),
-    omega (arith, a.is, b.is, a.bytes, b.bytes),
-    omega (arith, a.is, b.is, a.bytes, b.bytes),
-    omega (arith, a.is, b.is, a.bytes, b.bytes),
-  )
+  pub chunk_on : n < left → v ≡ same_back (left - n) (reverse (take k xs)) (reverse (take m ys))
+  chunk_on l = both ∙ rw (lt-leb left n l)
 
-  eight_same : (p q x y : ℕ) → EightAt s p x → EightAt s q y → x ≡ y → eight_back s p ≡ eight_back s q
-  eight_same p q x y a b e =
-      let l : b.low ≡ a.low = omega (arith, a.is, b.is, a.first.small, b.first.small) in
-      let h : b.high ≡ a.high = omega (arith, a.is, b.is, a.first.small, b.first.small) in
-      let u = four_same p q a.low a.first (rw l at b.first) in
-      let v = four_same (p + 4) (q + 4) a.high a.last (rw h at b.last) in
-      let f : (k m : ℕ) → get_or s (k + 4 + m) 0 ≡ get_or s (k + (4 + m)) 0 = λ k m. ap (λ (j : ℕ). get_or s j 0) (omega arith) in
-      let v1 : get_or s (p + 5) 0 ≡ get_or s (q + 5) 0 = sym (f p 1) ∙ (v.1 ∙ f q 1) in
-      let v2 : get_or s (p + 6) 0 ≡ get_or s (q + 6) 0 = sym (f p 2) ∙ (v.2 ∙ f q 2) in
-      let v3 : get_or s (p + 7) 0 ≡ get_or s (q + 7) 0 = sym (f p 3) ∙ (v.3 ∙ f q 3) in
-      rw (v3, v2, v1, v.0, u.3, u.2, u.1, u.0)
-
-  module _ (i j left : ℕ) (v : Bool) (e : v ≡ same_back left (reverse (take i s)) (reverse (take j s))) where
-    pub chunk_not : (r : Bool) → r ≡ same_back left (reverse (take i s)) (reverse (take j s)) → r ≡ v
-    chunk_not r q = q ∙ sym e
-
-    module _ (a : 8 ≤ i) (b : 8 ≤ j) (c : i ≤ length s) (d : j ≤ length s) (x y : ℕ) (g : EightAt s (i - 8) x) (h : EightAt s (j - 8) y) (q : x ≡ y) (t : ℕ) (u : t ≡ tabs_in (eight_back s (i - 8))) where
-      eight_front : (k : ℕ) → 8 ≤ k → k ≤ length s → reverse (take k s) ≡ eight_back s (k - 8) ++ reverse (take (k - 8) s)
-      eight_front k l m = let z : k ≡ k - 8 + 8 = omega arith in ap (λ (n : ℕ). reverse (take n s)) z ∙ back_eight (k - 8) (omega arith)
-
-      both : v ≡ cond (leb left t) true (same_back (left - t) (reverse (take (i - 8) s)) (reverse (take (j - 8) s)))
-      both =
-          let k : reverse (take j s) ≡ eight_back s (i - 8) ++ reverse (take (j - 8) s) =
-          eight_front j b d ∙ ap (λ (us : List ℕ). us ++ reverse (take (j - 8) s)) (sym (eight_same (i - 8) (j - 8) x y g h q)) in
-          e ∙ (ap₂ (same_back left) (eight_front i a c) k ∙ rw u (chunk (eight_back s (i - 8)) (reverse (take (i - 8) s)) (reverse (take (j - 8) s)) left))
-
-      pub chunk_done : left ≤ t → true ≡ v
-      chunk_done l = sym (both ∙ rw (le-leb left t l))
-
-      pub chunk_on : t < left → v ≡ same_back (left - t) (reverse (take (i - 8) s)) (reverse (take (j - 8) s))
-      chunk_on l = both ∙ rw (lt-leb left t l)
-
--- one tab less after a tab
-pub tab_less : (left b : ℕ) → b ≡ 0x09 → left - 1 ≡ cond (eqb b 0x09) (left - 1) left
-tab_less left b q = rw (eq-eqb b 0x09 q)
-
-pub tab_not : (left b : ℕ) → (b ≡ 0x09 → ⊥) → left ≡ cond (eqb b 0x09) (left - 1) left
-tab_not left b f = rw (ne_eqb b 0x09 f)
-
-pub tab_one : (b : ℕ) → b ≡ 0x09 → 1 ≡ tab_of b
-tab_one b q = rw (eq-eqb b 0x09 q)
-
-pub tab_none : (b : ℕ) → (b ≡ 0x09 → ⊥) → 0 ≡ tab_of b
-tab_none b f = rw (ne_eqb b 0x09 f)
-
-pub ruleset comparing = (rules, chunk_not, chunk_done, chunk_on, tab_one, tab_none, tab_less, tab_not, alike_end, alike_first, alike_second, alike_other, alike_on)
+pub ruleset comparing = (rules, chunk_done, chunk_on, alike_end, alike_first, alike_second, alike_other, alike_on)
 
 -- ## texts without tabs
 abbrev NoTab : List ℕ → Type 0
@@ -235,8 +193,7 @@ range_told max x y h k e =
     let s : List ℕ = range_text (range_of x) ++ (0x09 ∷ []) in
     let a : ReadsEnds (range_at max 0x09 s 0) x s [] = range_read max 0x09 s 0 x [] refl h.0 h.1 refl in
     let b : ReadsEnds (range_at max 0x09 s 0) y s [] = range_read max 0x09 s 0 y [] refl k.0 k.1 (ap {B = List ℕ} (λ t. t ++ (0x09 ∷ [])) e) in
-    let q : Between x a.n ≡ Between y b.n = sym a.is ∙ b.is in
-    let d : x ≡ y = cc in ap range_of d
+    ap range_of (some_pair_parts x y a.n b.n (sym a.is ∙ b.is)).0
 
 address_told : (x y : ℕ) → x / 4294967296 ≤ x % 4294967296 → y / 4294967296 ≤ y % 4294967296 → address_text (range_of x) ≡ address_text (range_of y) → range_of x ≡ range_of y
 unfolding between
@@ -244,8 +201,7 @@ address_told x y h k e =
     let s : List ℕ = address_text (range_of x) ++ (0x09 ∷ []) in
     let a : ReadsEnds (quads_at 0x09 s 0) x s [] = quads_read 0x09 s 0 x [] refl h refl in
     let b : ReadsEnds (quads_at 0x09 s 0) y s [] = quads_read 0x09 s 0 y [] refl k (ap {B = List ℕ} (λ t. t ++ (0x09 ∷ [])) e) in
-    let q : Between x a.n ≡ Between y b.n = sym a.is ∙ b.is in
-    let d : x ≡ y = cc in ap range_of d
+    ap range_of (some_pair_parts x y a.n b.n (sym a.is ∙ b.is)).0
 
 -- ## tests in the other order
 abbrev and_all : List Bool → Bool

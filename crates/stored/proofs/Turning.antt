@@ -2,24 +2,28 @@
 use Prim.Native.Nat.{ℕ, zero, suc, ◌+◌, ◌-◌, ◌/◌, ◌%◌, ◌≤◌, ◌<◌}
 use mathlib.Core.Path.{◌≡◌, refl, ap, sym, ◌∙◌, subst}
 use mathlib.Core.List.{List, [], ◌∷◌, reverse}
-use mathlib.Core.Bool.{Bool, true, false, ◌&&◌, not}
+use mathlib.Core.Bool.{Bool, true, false, ◌&&◌, not, and-false}
+use mathlib.Core.Logic.{∥∥₁_elim}
 use native.Mathlib.Numerals.{add-one}
 use native.Mathlib.Omega.{arith}
 use lib.ListN.{length, get_or, take, drop, drop_of_length-le}
-use lib.Seq.{drop-cons}
+use lib.Seq.{drop-cons, length-take-le}
+use Rattle.std.proofs.lemmas.List.{get_or-take}
 use lib.Dec.{eqb, leb, ltb}
 use borrow.Author.Rules.{rules}
 use borrow.Author.Tests.{ltb-true, ltb-false, leb-true, leb-false, lt-ltb, le-ltb, le-leb, lt-leb, not-true, not-false}
-use Rattle.text.proofs.Tests.{by_test, clash, split}
+use Rattle.std.proofs.Props.{props}
+use Rattle.std.specs.Prelude.{Option, Some, None, is_some}
+use Rattle.std.proofs.lemmas.Option.{same_Some, none-some}
+use Rattle.text.proofs.Tests.{by_test, split}
 use Rattle.flows.specs.Table.{Range, ◌to◌, run, Line, Table, eq_line, eq_table}
 use Rattle.flows.specs.Flow.{widths}
 use Rattle.flows.specs.Canonical.{canonical, headed, rising, apart, filled, group, LineIn, AllLines, low_end, high_end}
 use Rattle.stored.specs.Text.{nth}
 use Rattle.stored.specs.Line.{ranges}
 use Rattle.stored.specs.Words.{Fits}
-use Rattle.stored.specs.Groups.{row, rows, differ_of, under, past, member_at, follow, follow_at, Next, Grouped}
+use Rattle.stored.specs.Groups.{row, rows, differ_of, under, past, member_at, follow, follow_at, Next, Ended, Grouped}
 use Rattle.stored.specs.Marks.{step_of, Related, Marked, marked_in, same_back}
-use Rattle.stored.specs.declared.groups.Ran.{Ran}
 use Rattle.stored.proofs.ReadLines.{got_sound}
 use Rattle.stored.proofs.Spelling.{Read-as, as_read}
 use Rattle.stored.proofs.Tails.{tails_same}
@@ -85,24 +89,42 @@ module _ (d : ℕ) (x : Line) (w : Table) (at : ℕ) (b : Bool) (e : b ≡ membe
   members_cons q = rw (rows_got w at (member_yes q).0) (under_in d x (row w at) (rows w (at + 1)) (member_yes q).1)
 
 -- ## what the marks tell
-pub marked_out : (d : ℕ) (ms : List ℕ) (n at : ℕ) → n ≤ at → false ≡ marked_in d ms n at
-unfolding marked_in
-marked_out d ms n at h = rw (le-ltb at n h)
+line_prop : (ws : List ℕ) (l : Line) → IsProp (LineIn ws l)
+line_prop [] [] = hlevel props
+line_prop [] (r ∷ l) = hlevel props
+line_prop (w ∷ ws) [] = hlevel props
+line_prop (w ∷ ws) (lo to hi ∷ l) = hlevel (props, line_prop ws l)
 
-pub marked_in_lem : (d : ℕ) (ms : List ℕ) (n at : ℕ) → at < n → (k : ℕ) → k ≡ get_or ms at 0 % 8 → leb d k ≡ marked_in d ms n at
-unfolding marked_in
-marked_in_lem d ms n at h k e = rw (lt-ltb at n h, e)
+fits_prop : (w : Table) → IsProp (Fits w)
+fits_prop [] = hlevel props
+fits_prop (l ∷ w) = hlevel (props, line_prop widths l, fits_prop w)
 
-module _ (s ms : List ℕ) (w : Table) (n : ℕ) (m : Marked s ms w n) where
+module _ {s ms : List ℕ} {w : Table} {n : ℕ} (m : ∥ Marked s ms w n ∥₁) where
+  pub count_of : n ≡ length w
+  count_of = ∥∥₁_elim m (hlevel props) (λ x. x.count)
+
+  fits_of : Fits w
+  fits_of = ∥∥₁_elim m (fits_prop w) (λ x. x.fits)
+
+  related_of : (k : ℕ) → k < n → 0 < k → Related (row w (k - 1)) (row w k) (get_or ms k 0 % 64)
+  related_of k l o = ∥∥₁_elim m (hlevel props) (λ x. (x.each k l).related o)
+
+  pub place_of : (k : ℕ) → k < n → get_or ms k 0 / 64 ≤ length s
+  place_of k l = ∥∥₁_elim m (hlevel props) (λ x. let e = (x.each k l).ends in (got_sound s e.from e.read).within)
+
+  tails_of : (d i j : ℕ) → 0 < d → d ≤ 6 → i < n → j < n → same_back (6 - d) (reverse (take (get_or ms i 0 / 64) s)) (reverse (take (get_or ms j 0 / 64) s)) ≡ eq_line (drop d (row w i)) (drop d (row w j))
+  tails_of d i j o l a b = ∥∥₁_elim m (hlevel props) (λ x. tails_same s d (row w i) (row w j) (get_or ms i 0 / 64) (get_or ms j 0 / 64) o l (x.each i a).ends (x.each j b).ends)
+
+module _ (s ms : List ℕ) (w : Table) (n : ℕ) (m : ∥ Marked s ms w n ∥₁) where
   by_marks : (d : ℕ) (x : Line) (at : ℕ) → 0 < at → d ≤ differ_of x (row w (at - 1)) → marked_in d ms n at ≡ member_at d x w at
   unfolding marked_in member_at
   by_marks d x at o h =
       by_test (ltb at n)
       (λ l. let k : at < n = ltb-true at n l in
-      let r : Related (row w (at - 1)) (row w at) (get_or ms at 0 % 64) = (m.each at k).related o in
+      let r : Related (row w (at - 1)) (row w at) (get_or ms at 0 % 64) = related_of m at k o in
       let q : get_or ms at 0 % 8 ≡ differ_of (row w (at - 1)) (row w at) = omega (arith, r.dimension) in
-      rw (l, lt-ltb at (length w) (omega (arith, m.count)), q) (alike_swap d x (row w (at - 1)) (row w at) h))
-      (λ l. rw (l, le-ltb at (length w) (omega (arith, m.count, ltb-false at n l))))
+      rw (l, lt-ltb at (length w) (omega (arith, count_of m)), q) (alike_swap d x (row w (at - 1)) (row w at) h))
+      (λ l. rw (l, le-ltb at (length w) (omega (arith, count_of m, ltb-false at n l))))
 
 -- ## two groups, line by line
 pub record Pairing (w : Table) (d a b i j : ℕ) : Type 0 where
@@ -112,29 +134,23 @@ pub record Pairing (w : Table) (d a b i j : ℕ) : Type 0 where
   pub second : d ≤ differ_of (row w b) (row w j)
   pub test : eq_table (under d (row w a) (rows w a)) (under d (row w b) (rows w b)) ≡ eq_table (under d (row w a) (rows w i)) (under d (row w b) (rows w j))
 
-module _ (s ms : List ℕ) (w : Table) (n : ℕ) (m : Marked s ms w n) (d a b : ℕ) where
+module _ (s ms : List ℕ) (w : Table) (n : ℕ) (m : ∥ Marked s ms w n ∥₁) (d a b : ℕ) where
   pub pair_start : a < b → b < n → d ≤ 6 → Pairing w d a b a b
   pair_start h k l = record {
     order = h;
-    within = omega (arith, m.count);
-    first = self w m.fits a d (omega (arith, m.count)) l;
-    second = self w m.fits b d (omega (arith, m.count)) l;
+    within = omega (arith, count_of m);
+    first = self w (fits_of m) a d (omega (arith, count_of m)) l;
+    second = self w (fits_of m) b d (omega (arith, count_of m)) l;
     test = refl;
   }
 
   module _ (i j : ℕ) (p : Pairing w d a b i j) where
-    place_in : (k : ℕ) → k < n → get_or ms k 0 / 64 ≤ length s
-    place_in k l = let e = (m.each k l).ends in (got_sound s e.from e.read).within
+    pub pair_room : (i < n) × (j < n)
+    pair_room = (omega (arith, p.order, p.within, count_of m), omega (arith, p.within, count_of m))
 
-    pub pair_place_first : (x : ℕ) → x ≡ get_or ms i 0 / 64 → x ≤ length s
-    pair_place_first x e = omega (arith, e, place_in i (omega (arith, p.order, p.within, m.count)))
-
-    pub pair_place_second : (y : ℕ) → y ≡ get_or ms j 0 / 64 → y ≤ length s
-    pair_place_second y e = omega (arith, e, place_in j (omega (arith, p.within, m.count)))
-
-    module _ (x y : ℕ) (ex : x ≡ get_or ms i 0 / 64) (ey : y ≡ get_or ms j 0 / 64) (o : 0 < d) (l : d ≤ 6) (z : Bool) (ez : z ≡ same_back (6 - d) (reverse (take x s)) (reverse (take y s))) where
+    module _ (x y : List ℕ) (ex : x ≡ take (get_or ms i 0 / 64) s) (ey : y ≡ take (get_or ms j 0 / 64) s) (o : 0 < d) (l : d ≤ 6) (z : Bool) (ez : z ≡ same_back (6 - d) (reverse x) (reverse y)) where
       tails : z ≡ eq_line (drop d (row w i)) (drop d (row w j))
-      tails = ez ∙ rw (ex, ey) (tails_same s d (row w i) (row w j) (get_or ms i 0 / 64) (get_or ms j 0 / 64) o l (m.each i (omega (arith, p.order, p.within, m.count))).ends (m.each j (omega (arith, p.within, m.count))).ends)
+      tails = ez ∙ rw (ex, ey) (tails_of m d i j o l (omega (arith, p.order, p.within, count_of m)) (omega (arith, p.within, count_of m)))
 
       both_cons : eq_table (under d (row w a) (rows w a)) (under d (row w b) (rows w b)) ≡ (z && eq_table (under d (row w a) (rows w (i + 1))) (under d (row w b) (rows w (j + 1))))
       unfolding eq_table
@@ -179,7 +195,7 @@ module _ (s ms : List ℕ) (w : Table) (n : ℕ) (m : Marked s ms w n) (d a b : 
           test = on;
         }
 
-pub ruleset pairing = (rules, marked_out, marked_in_lem, pair_start, pair_place_first, pair_place_second, pair_other, pair_none, pair_short, pair_long, pair_on)
+pub ruleset pairing = (rules, pair_start, pair_room, pair_other, pair_none, pair_short, pair_long, pair_on)
 
 -- ## one run after another
 by_step : ℕ → Bool → Bool
@@ -200,13 +216,13 @@ far zero z f g = absurd (f refl)
 far (suc zero) z f g = absurd (g refl)
 far (suc (suc v)) z f g = refl
 
-module _ (s ms : List ℕ) (w : Table) (n : ℕ) (m : Marked s ms w n) (d i k : ℕ) (x : Next d w i k) where
+module _ (s ms : List ℕ) (w : Table) (n : ℕ) (m : ∥ Marked s ms w n ∥₁) (d i k : ℕ) (x : Next d w i k) where
   how : get_or ms k 0 / 8 % 8 ≡ step_of (nth (row w i) d) (nth (row w k) d)
   how =
-      let r : Related (row w (k - 1)) (row w k) (get_or ms k 0 % 64) = (m.each k (omega (arith, x.within, m.count))).related (omega (arith, x.onward)) in
+      let r : Related (row w (k - 1)) (row w k) (get_or ms k 0 % 64) = related_of m k (omega (arith, x.within, count_of m)) (omega (arith, x.onward)) in
       let e : differ_of (row w (k - 1)) (row w k) ≡ d = omega (arith, x.alike, x.ended) in
       let a : get_or ms k 0 / 8 % 8 ≡ get_or ms k 0 % 64 / 8 = omega arith in
-      let b : nth (row w i) d ≡ nth (row w (k - 1)) d = nth_same d (row w i) (row w (k - 1)) (omega (arith, six w m.fits i (omega (arith, x.onward, x.within)), x.below)) (omega (arith, six w m.fits (k - 1) (omega (arith, x.onward, x.within)), x.below)) x.run in
+      let b : nth (row w i) d ≡ nth (row w (k - 1)) d = nth_same d (row w i) (row w (k - 1)) (omega (arith, six w (fits_of m) i (omega (arith, x.onward, x.within)), x.below)) (omega (arith, six w (fits_of m) (k - 1) (omega (arith, x.onward, x.within)), x.below)) x.run in
       a ∙ (r.step ∙ rw (e, b))
 
   follow_is : (z : Bool) → z ≡ eq_table (under (d + 1) (row w i) (rows w i)) (under (d + 1) (row w k) (rows w k)) → follow_at d w i k ≡ by_step (get_or ms k 0 / 8 % 8) z
@@ -231,16 +247,24 @@ module _ (s ms : List ℕ) (w : Table) (n : ℕ) (m : Marked s ms w n) (d i k : 
 
 pub ruleset following = (rules, follow_low, follow_apart, follow_same, follow_other)
 
+-- ## what a group tells
+module _ (d : ℕ) (x : Line) (w : Table) (at : ℕ) where
+  ends_there : (e : ℕ) → true ≡ canonical (drop d widths) (under d x (rows w at)) → Ended d x w at e → Grouped d x w at (Some e)
+  ends_there e p q = record { test = p; ended = λ k r. subst (Ended d x w at) (same_Some e k r) q }
+
+  no_end : false ≡ canonical (drop d widths) (under d x (rows w at)) → Grouped d x w at None
+  no_end p = record { test = p; ended = λ k r. absurd (none-some k r) }
+
 -- ## a group of one line
-module _ (s ms : List ℕ) (w : Table) (n : ℕ) (m : Marked s ms w n) (at : ℕ) (h : at < n) (b : Bool) (q : b ≡ marked_in 6 ms n (at + 1)) where
+module _ (s ms : List ℕ) (w : Table) (n : ℕ) (m : ∥ Marked s ms w n ∥₁) (at : ℕ) (h : at < n) (b : Bool) (q : b ≡ marked_in 6 ms n (at + 1)) where
   here : at < length w
-  here = omega (arith, m.count)
+  here = omega (arith, count_of m)
 
   none_left : drop 6 (row w at) ≡ []
-  none_left = let l : length (row w at) ≤ 6 = omega (arith, six w m.fits at here) in drop_of_length-le (row w at) l
+  none_left = let l : length (row w at) ≤ 6 = omega (arith, six w (fits_of m) at here) in drop_of_length-le (row w at) l
 
   alone : 6 ≤ differ_of (row w at) (row w at)
-  alone = self w m.fits at 6 here (omega arith)
+  alone = self w (fits_of m) at 6 here (omega arith)
 
   back_one : at + 1 - 1 ≡ at
   back_one = omega arith
@@ -251,25 +275,19 @@ module _ (s ms : List ℕ) (w : Table) (n : ℕ) (m : Marked s ms w n) (at : ℕ
   under_6 : under 6 (row w at) (rows w at) ≡ [] ∷ under 6 (row w at) (rows w (at + 1))
   under_6 = rw (rows_got w at here, under_in 6 (row w at) (row w at) (rows w (at + 1)) alone, none_left)
 
-  pub single_alone : b ≡ false → Grouped 6 (row w at) w at (record { good = true; end = at + 1 })
+  pub single_alone : b ≡ false → Grouped 6 (row w at) w at (Some (at + 1))
   unfolding canonical
-  single_alone u = record {
-    test = rw (under_6, members_none 6 (row w at) w (at + 1) b e u);
-    rest = λ g. sym (rw (rows_got w at here, past_in 6 (row w at) (row w at) (rows w (at + 1)) alone) (past_none 6 (row w at) w (at + 1) b e u));
-    further = λ g. omega arith;
-    within = λ g. omega (arith, here);
-    last = λ g. rw back_one alone;
-  }
+  single_alone u =
+      ends_there 6 (row w at) w at (at + 1) (rw (under_6, members_none 6 (row w at) w (at + 1) b e u)) (record {
+        rest = sym (rw (rows_got w at here, past_in 6 (row w at) (row w at) (rows w (at + 1)) alone) (past_none 6 (row w at) w (at + 1) b e u));
+        further = omega arith;
+        within = omega (arith, here);
+        last = rw back_one alone;
+      })
 
-  pub single_twice : b ≡ true → Grouped 6 (row w at) w at (record { good = false; end = at + 1 })
+  pub single_twice : b ≡ true → Grouped 6 (row w at) w at None
   unfolding canonical
-  single_twice u = record {
-    test = rw (under_6, members_cons 6 (row w at) w (at + 1) b e u);
-    rest = λ g. clash g refl;
-    further = λ g. clash g refl;
-    within = λ g. clash g refl;
-    last = λ g. clash g refl;
-  }
+  single_twice u = no_end 6 (row w at) w at (rw (under_6, members_cons 6 (row w at) w (at + 1) b e u))
 
 -- ## the runs of a group
 in_nth : (ws : List ℕ) (l : Line) (d : ℕ) → LineIn ws l → d < length ws → (low_end (nth l d) ≤ high_end (nth l d)) × (high_end (nth l d) < get_or ws d 0)
@@ -305,16 +323,19 @@ pub record Turn (d : ℕ) (x : Line) (w : Table) (at i : ℕ) : Type 0 where
   pub below : d < 6
   pub fits : Fits w
 
-pub turn_start : (s ms : List ℕ) (w : Table) (n : ℕ) → Marked s ms w n → (d at : ℕ) → d ≤ 6 → (d ≡ 6 → ⊥) → at < n → Turn d (row w at) w at at
+pub turn_start : (s ms : List ℕ) (w : Table) (n : ℕ) → ∥ Marked s ms w n ∥₁ → (d at : ℕ) → d ≤ 6 → (d ≡ 6 → ⊥) → at < n → Turn d (row w at) w at at
 turn_start s ms w n m d at l u h = record {
-  line = omega (arith, m.count);
-  alike = self w m.fits at d (omega (arith, m.count)) l;
+  line = omega (arith, count_of m);
+  alike = self w (fits_of m) at d (omega (arith, count_of m)) l;
   test = refl;
   rest = refl;
   onward = omega arith;
   below = omega arith;
-  fits = m.fits;
+  fits = (fits_of m);
 }
+
+pub turn_room : {s ms : List ℕ} {w : Table} {n : ℕ} → ∥ Marked s ms w n ∥₁ → {d : ℕ} {x : Line} {at i : ℕ} → Turn d x w at i → i < n
+turn_room m t = omega (arith, t.line, count_of m)
 
 -- the first run from such a place
 module _ (d : ℕ) (x : Line) (w : Table) (f : Fits w) (i : ℕ) (n : d < 6) (h : i < length w) (a : d ≤ differ_of x (row w i)) where
@@ -348,131 +369,133 @@ module _ (d : ℕ) (x : Line) (w : Table) (f : Fits w) (i : ℕ) (n : d < 6) (h 
       let g : filled (under (suc d) (row w i) (rows w i)) ≡ true = unfold filled in rw own in
       rw (first_run, le-leb 0 (low_end (nth (row w i) d)) (omega arith), le-leb (low_end (nth (row w i) d)) (high_end (nth (row w i) d)) r.0, lt-ltb (high_end (nth (row w i) d)) (get_or widths d 0) r.1, g)
 
-and-false : (a : Bool) → (a && false) ≡ false
-and-false true = refl
-and-false false = refl
-
-module _ (d : ℕ) (x : Line) (w : Table) (at i : ℕ) (t : Turn d x w at i) (g : Ran) (h : Grouped (d + 1) (row w i) w i g) where
-  inner : g.good ≡ canonical (drop (suc d) widths) (under (suc d) (row w i) (rows w i))
-  inner = subst (λ j. g.good ≡ canonical (drop j widths) (under j (row w i) (rows w i))) (add-one d) h.test
+module _ (d : ℕ) (x : Line) (w : Table) (at i : ℕ) (t : Turn d x w at i) (g : Option ℕ) (h : Grouped (d + 1) (row w i) w i g) where
+  inner : is_some g ≡ canonical (drop (suc d) widths) (under (suc d) (row w i) (rows w i))
+  inner = subst (λ j. is_some g ≡ canonical (drop j widths) (under j (row w i) (rows w i))) (add-one d) h.test
 
   whole : canonical (drop d widths) (under d x (rows w at)) ≡ runs_of d x w i
   whole = canonical_runs d x w t.fits at t.below ∙ t.test
 
-  pub turn_bad : g.good ≡ false → Grouped d x w at (record { good = false; end = g.end })
-  turn_bad u = record {
-    test = sym (whole ∙ (runs_first d x w t.fits i t.below t.line t.alike ∙ rw (← inner, u)));
-    rest = λ k. clash k refl;
-    further = λ k. clash k refl;
-    within = λ k. clash k refl;
-    last = λ k. clash k refl;
-  }
+  pub turn_bad : g ≡ None → Grouped d x w at None
+  turn_bad u = no_end d x w at (sym (whole ∙ (runs_first d x w t.fits i t.below t.line t.alike ∙ rw (← inner, u))))
 
-  module _ (u : g.good ≡ true) where
-    places : rows w g.end ≡ past (suc d) (row w i) (rows w i)
-    places = rw (← add-one d) (h.rest (u))
+  module _ {e : ℕ} (u : g ≡ Some e) where
+    run_end : Ended (d + 1) (row w i) w i e
+    run_end = h.ended e u
 
-    behind : past d x (rows w at) ≡ past d x (rows w g.end)
+    places : rows w e ≡ past (suc d) (row w i) (rows w i)
+    places = rw (← add-one d) run_end.rest
+
+    behind : past d x (rows w at) ≡ past d x (rows w e)
     behind = t.rest ∙ (past_past d x (row w i) t.below t.alike (six w t.fits i t.line) (rows w i) ∙ ap (past d x) (sym places))
 
-    pub turn_further : i < g.end
-    turn_further = h.further (u)
+    pub turn_further : i < e
+    turn_further = run_end.further
 
-    pub turn_within : g.end ≤ length w
-    turn_within = h.within (u)
+    pub turn_within : e ≤ length w
+    turn_within = run_end.within
 
-    runs_next : runs_of d x w i ≡ (apart (high_end (nth (row w i) d)) (under (suc d) (row w i) (rows w i)) (group (under d x (rows w g.end))) && rising (canonical (drop (suc d) widths)) (get_or widths d 0) (suc (high_end (nth (row w i) d))) (group (under d x (rows w g.end))))
+    runs_next : runs_of d x w i ≡ (apart (high_end (nth (row w i) d)) (under (suc d) (row w i) (rows w i)) (group (under d x (rows w e))) && rising (canonical (drop (suc d) widths)) (get_or widths d 0) (suc (high_end (nth (row w i) d))) (group (under d x (rows w e))))
     runs_next = runs_first d x w t.fits i t.below t.line t.alike ∙ rw (← inner, u, places)
 
-    pub turn_less : length w - g.end < length w - i
+    pub turn_less : length w - e < length w - i
     turn_less = omega (arith, turn_further, turn_within)
 
-    lastly : suc d ≤ differ_of (row w i) (row w (g.end - 1))
-    lastly = omega (arith, h.last (u))
+    lastly : suc d ≤ differ_of (row w i) (row w (e - 1))
+    lastly = omega (arith, run_end.last)
 
-    joined : d ≤ differ_of x (row w (g.end - 1))
-    joined = alike_trans d x (row w i) (row w (g.end - 1)) t.alike (omega (arith, lastly))
+    joined : d ≤ differ_of x (row w (e - 1))
+    joined = alike_trans d x (row w i) (row w (e - 1)) t.alike (omega (arith, lastly))
 
-    module _ (s ms : List ℕ) (n : ℕ) (k : Marked s ms w n) (b : Bool) (o : b ≡ marked_in d ms n g.end) where
-      m : b ≡ member_at d x w g.end
-      m = o ∙ by_marks s ms w n k d x g.end (omega (arith, turn_further)) joined
+    module _ (s ms : List ℕ) (n : ℕ) (k : ∥ Marked s ms w n ∥₁) (b : Bool) (o : b ≡ marked_in d ms n e) where
+      m : b ≡ member_at d x w e
+      m = o ∙ by_marks s ms w n k d x e (omega (arith, turn_further)) joined
 
-      pub turn_out : b ≡ false → Grouped d x w at (record { good = true; end = g.end })
+      pub turn_out : b ≡ false → Grouped d x w at (Some e)
       unfolding group apart rising
-      turn_out v = record {
-        test = sym (whole ∙ (runs_next ∙ rw (members_none d x w g.end b m (v))));
-        rest = λ k. sym (behind ∙ past_none d x w g.end b m (v));
-        further = λ k. omega (arith, turn_further, t.onward);
-        within = λ k. turn_within;
-        last = λ k. joined;
-      }
+      turn_out v =
+          ends_there d x w at e (sym (whole ∙ (runs_next ∙ rw (members_none d x w e b m v)))) (record {
+            rest = sym (behind ∙ past_none d x w e b m v);
+            further = omega (arith, turn_further, t.onward);
+            within = turn_within;
+            last = joined;
+          })
 
       module _ (v : b ≡ true) where
-        room : g.end < length w
-        room = (member_yes d x w g.end b m (v)).0
+        room : e < length w
+        room = (member_yes d x w e b m (v)).0
 
-        high : d ≤ differ_of x (row w g.end)
-        high = (member_yes d x w g.end b m (v)).1
+        high : d ≤ differ_of x (row w e)
+        high = (member_yes d x w e b m (v)).1
 
-        apart_from : differ_of (row w i) (row w g.end) < suc d
-        apart_from = past_head (suc d) (row w i) (row w g.end) (rows w i) (rows w (g.end + 1)) (sym places ∙ rows_got w g.end room)
+        apart_from : differ_of (row w i) (row w e) < suc d
+        apart_from = past_head (suc d) (row w i) (row w e) (rows w i) (rows w (e + 1)) (sym places ∙ rows_got w e room)
 
-        pub turn_next : Next d w i g.end
+        pub turn_next : Next d w i e
         turn_next = record {
           below = t.below;
           onward = turn_further;
           within = room;
           run = lastly;
-          alike = alike_trans d (row w (g.end - 1)) x (row w g.end) (rw (differ_sym (row w (g.end - 1)) x) joined) high;
-          ended = by_test (leb (suc d) (differ_of (row w (g.end - 1)) (row w g.end)))
-              (λ q. absurd (omega (arith, apart_from, alike_trans (suc d) (row w i) (row w (g.end - 1)) (row w g.end) lastly (leb-true _ _ q))))
-              (λ q. omega (arith, leb-false (suc d) (differ_of (row w (g.end - 1)) (row w g.end)) q));
+          alike = alike_trans d (row w (e - 1)) x (row w e) (rw (differ_sym (row w (e - 1)) x) joined) high;
+          ended = by_test (leb (suc d) (differ_of (row w (e - 1)) (row w e)))
+              (λ q. absurd (omega (arith, apart_from, alike_trans (suc d) (row w i) (row w (e - 1)) (row w e) lastly (leb-true _ _ q))))
+              (λ q. omega (arith, leb-false (suc d) (differ_of (row w (e - 1)) (row w e)) q));
         }
 
-        module _ (z : Bool) (e : z ≡ follow_at d w i g.end) where
-          parts : z ≡ (ltb (high_end (nth (row w i) d)) (low_end (nth (row w g.end) d)) && apart (high_end (nth (row w i) d)) (under (suc d) (row w i) (rows w i)) (group (under d x (rows w g.end))))
+        module _ (z : Bool) (q : z ≡ follow_at d w i e) where
+          parts : z ≡ (ltb (high_end (nth (row w i) d)) (low_end (nth (row w e) d)) && apart (high_end (nth (row w i) d)) (under (suc d) (row w i) (rows w i)) (group (under d x (rows w e))))
           unfolding follow_at follow
-          parts = e ∙ rw (apart_first d x w t.fits g.end t.below room high (high_end (nth (row w i) d)) (under (suc d) (row w i) (rows w i)))
+          parts = q ∙ rw (apart_first d x w t.fits e t.below room high (high_end (nth (row w i) d)) (under (suc d) (row w i) (rows w i)))
 
-          pub turn_wrong : z ≡ false → Grouped d x w at (record { good = false; end = g.end })
-          turn_wrong y = record {
-            test = sym (whole ∙ (runs_next ∙ by_test (ltb (high_end (nth (row w i) d)) (low_end (nth (row w g.end) d)))
-                (λ p. let r : apart (high_end (nth (row w i) d)) (under (suc d) (row w i) (rows w i)) (group (under d x (rows w g.end))) ≡ false = (rw p at (sym parts)) ∙ y in rw r)
-                (λ p. rw (rising_low d x w t.fits g.end t.below room high (canonical (drop (suc d) widths)) (get_or widths d 0) (suc (high_end (nth (row w i) d))) (omega (arith, ltb-false (high_end (nth (row w i) d)) (low_end (nth (row w g.end) d)) p))) (and-false (apart (high_end (nth (row w i) d)) (under (suc d) (row w i) (rows w i)) (group (under d x (rows w g.end))))))));
-            rest = λ j. clash j refl;
-            further = λ j. clash j refl;
-            within = λ j. clash j refl;
-            last = λ j. clash j refl;
-          }
+          pub turn_wrong : z ≡ false → Grouped d x w at None
+          turn_wrong y =
+              no_end d x w at (sym (whole ∙ (runs_next ∙ by_test (ltb (high_end (nth (row w i) d)) (low_end (nth (row w e) d)))
+              (λ p. let r : apart (high_end (nth (row w i) d)) (under (suc d) (row w i) (rows w i)) (group (under d x (rows w e))) ≡ false = (rw p at (sym parts)) ∙ y in rw r)
+              (λ p. rw (rising_low d x w t.fits e t.below room high (canonical (drop (suc d) widths)) (get_or widths d 0) (suc (high_end (nth (row w i) d))) (omega (arith, ltb-false (high_end (nth (row w i) d)) (low_end (nth (row w e) d)) p))) (and-false (apart (high_end (nth (row w i) d)) (under (suc d) (row w i) (rows w i)) (group (under d x (rows w e)))))))))
 
-          pub turn_on : z ≡ true → Turn d x w at g.end
+          pub turn_on : z ≡ true → Turn d x w at e
           unfolding runs_of
           turn_on y =
-              let p = split (ltb (high_end (nth (row w i) d)) (low_end (nth (row w g.end) d))) (apart (high_end (nth (row w i) d)) (under (suc d) (row w i) (rows w i)) (group (under d x (rows w g.end)))) (sym parts ∙ y) in
+              let p = split (ltb (high_end (nth (row w i) d)) (low_end (nth (row w e) d))) (apart (high_end (nth (row w i) d)) (under (suc d) (row w i) (rows w i)) (group (under d x (rows w e)))) (sym parts ∙ y) in
               record {
                 line = room;
                 alike = high;
-                test = t.test ∙ (runs_next ∙ rw p.1 (rising_from d x w t.fits g.end t.below room high (canonical (drop (suc d) widths)) (get_or widths d 0) (suc (high_end (nth (row w i) d))) (omega (arith, ltb-true (high_end (nth (row w i) d)) (low_end (nth (row w g.end) d)) p.0))));
+                test = t.test ∙ (runs_next ∙ rw p.1 (rising_from d x w t.fits e t.below room high (canonical (drop (suc d) widths)) (get_or widths d 0) (suc (high_end (nth (row w i) d))) (omega (arith, ltb-true (high_end (nth (row w i) d)) (low_end (nth (row w e) d)) p.0))));
                 rest = behind;
                 onward = omega (arith, turn_further, t.onward);
                 below = t.below;
                 fits = t.fits;
               }
 
-pub grouped_six : (d : ℕ) (x : Line) (w : Table) (at : ℕ) (r : Ran) → Grouped 6 x w at r → d ≡ 6 → Grouped d x w at r
+pub grouped_six : (d : ℕ) (x : Line) (w : Table) (at : ℕ) (r : Option ℕ) → Grouped 6 x w at r → d ≡ 6 → Grouped d x w at r
 grouped_six d x w at r h q = rw q h
 
 -- ## the whole
+-- the first marks are a table's own
+pub first_marks : (s ms : List ℕ) (w : Table) (n : ℕ) → Marked s ms w n → ∥ Marked s (take n ms) w (length (take n ms)) ∥₁
+first_marks s ms w n m =
+    let l : length (take n ms) ≡ n = length-take-le n ms m.room in
+    ∣ record {
+      count = l ∙ m.count;
+      room = omega arith;
+      fits = m.fits;
+      each = λ k h.
+          let x = m.each k (omega (arith, l)) in
+          let g : get_or (take n ms) k 0 ≡ get_or ms k 0 = get_or-take n ms k 0 (omega (arith, l)) in
+          record { ends = rw g x.ends; related = rw g x.related };
+    } ∣₁
+
 under_all : (x : Line) (t : Table) → under 0 x t ≡ t
 unfolding under
 under_all x [] = refl
 under_all x (l ∷ t) = rw (under, le-leb 0 (differ_of x l) (omega arith), under_all x t)
 
-pub table_none : (s ms : List ℕ) (w : Table) (n : ℕ) → Marked s ms w n → n ≡ 0 → true ≡ canonical widths w
+pub table_none : (s ms : List ℕ) (w : Table) (n : ℕ) → ∥ Marked s ms w n ∥₁ → n ≡ 0 → true ≡ canonical widths w
 unfolding canonical headed rising group
-table_none s ms w n m h = sym (ap (canonical widths) (rows_none w 0 (omega (arith, m.count))))
+table_none s ms w n m h = sym (ap (canonical widths) (rows_none w 0 (omega (arith, count_of m))))
 
-pub table_is : (w : Table) (g : Ran) → Grouped 0 (row w 0) w 0 g → g.good ≡ canonical widths w
+pub table_is : (w : Table) (g : Option ℕ) → Grouped 0 (row w 0) w 0 g → is_some g ≡ canonical widths w
 table_is w g h = h.test ∙ ap (canonical widths) (under_all (row w 0) w)
 
-pub ruleset walking = (rules, not-true, not-false, grouped_six, single_alone, single_twice, turn_start, turn_bad, turn_out, turn_next, turn_wrong, turn_on, turn_less, table_none, table_is)
+pub ruleset walking = (rules, not-true, not-false, grouped_six, single_alone, single_twice, turn_start, turn_bad, turn_out, turn_next, turn_wrong, turn_on, turn_less, turn_room, first_marks, table_none, table_is)

@@ -1,10 +1,9 @@
 -- The groups of a table's lines: what the functions that test their order answer. (Cited by inner functions only.)
-use Rattle.std.specs.Prelude.{ℕ, zero, suc, ◌-◌, ◌≤◌, ◌<◌, ◌≡◌, [], ◌∷◌, Bool, true, false, ◌&&◌, not, length, get_or, drop, ltb, leb, eqb}
+use Rattle.std.specs.Prelude.{ℕ, zero, suc, ◌-◌, ◌≤◌, ◌<◌, ◌≡◌, [], ◌∷◌, Bool, true, false, ◌&&◌, not, length, get_or, drop, ltb, leb, eqb, Option, Some, is_some}
 use Rattle.flows.specs.Table.{Range, Line, Table, eq_range, eq_table}
 use Rattle.flows.specs.Flow.{widths}
 use Rattle.flows.specs.Canonical.{canonical, low_end, high_end}
 use Rattle.stored.specs.Text.{nth}
-use Rattle.stored.specs.declared.groups.Ran.{Ran}
 
 -- the line at a place, and the lines from there on
 abbrev pub row : Table → ℕ → Line
@@ -49,10 +48,14 @@ pub record Next (d : ℕ) (t : Table) (i k : ℕ) : Type 0 where
   pub alike : d ≤ differ_of (row t (k - 1)) (row t k)
   pub ended : differ_of (row t (k - 1)) (row t k) ≤ d
 
--- what the group of the line at a place tells
-pub record Grouped (d : ℕ) (x : Line) (t : Table) (at : ℕ) (r : Ran) : Type 0 where
-  pub test : r.good ≡ canonical (drop d widths) (under d x (rows t at))
-  pub rest : r.good ≡ true → rows t r.end ≡ past d x (rows t at)
-  pub further : r.good ≡ true → at < r.end
-  pub within : r.good ≡ true → r.end ≤ length t
-  pub last : r.good ≡ true → d ≤ differ_of x (row t (r.end - 1))
+-- a group ends at a place
+pub record Ended (d : ℕ) (x : Line) (t : Table) (at e : ℕ) : Type 0 where
+  pub rest : rows t e ≡ past d x (rows t at)
+  pub further : at < e
+  pub within : e ≤ length t
+  pub last : d ≤ differ_of x (row t (e - 1))
+
+-- what the group of the line at a place tells: where it ends, if it is a table's
+pub record Grouped (d : ℕ) (x : Line) (t : Table) (at : ℕ) (r : Option ℕ) : Type 0 where
+  pub test : is_some r ≡ canonical (drop d widths) (under d x (rows t at))
+  pub ended : (e : ℕ) → r ≡ Some e → Ended d x t at e

@@ -1,66 +1,56 @@
 -- A line of a stored table, read at a place (document 01, 'The table of a set of flows').
-use Rattle.std.specs.Prelude.{ℕ, ◌/◌, ◌%◌, List, [], ◌∷◌, Bool, cond, leb}
-use Rattle.text.specs.Numbers.{closed_at, closed_quad_at}
-use Rattle.text.specs.declared.numbers.Digits.{Digits}
-use Rattle.text.specs.declared.numbers.Digits.TheVariants.{Number, NoNumber}
+use Rattle.std.specs.Prelude.{ℕ, ◌/◌, ◌%◌, ◌<◌, ◌≡◌, List, [], ◌∷◌, Bool, cond, leb, Option, Some, None}
+use Rattle.text.specs.Numbers.{then_read, closed_at, closed_quad_at}
 use Rattle.flows.specs.Table.{Line}
 use Rattle.flows.specs.Canonical.{flow_ends}
 use Rattle.stored.specs.declared.lines.Line as struct
-use Rattle.stored.specs.declared.lines.Ends.{Ends}
-use Rattle.stored.specs.declared.lines.Ends.TheVariants.{Between, NoRange}
-use Rattle.stored.specs.declared.lines.Half.{Half}
-use Rattle.stored.specs.declared.lines.Half.TheVariants.{Three, NoHalf}
-use Rattle.stored.specs.declared.lines.Read.{Read}
-use Rattle.stored.specs.declared.lines.Read.TheVariants.{Got, NoLine}
 use Rattle.stored.specs.Words.{word_of, range_of}
 
--- what is read from a number, a range or three ranges, and the place after them
-abbrev pub then_ends : Digits → (ℕ → ℕ → Ends) → Ends
-then_ends NoNumber g = NoRange
-then_ends (Number v i) g = g v i
+-- low to high, low not above high, and the place after it
+unfoldable pub ends_of : ℕ → ℕ → ℕ → Option (ℕ × ℕ)
+ends_of lo hi at = cond (leb lo hi) (Some (word_of lo hi, at)) None
 
-abbrev pub then_half : Ends → (ℕ → ℕ → Half) → Half
-then_half NoRange g = NoHalf
-then_half (Between x i) g = g x i
+-- `low-high` and the byte that closes it, each end as r reads it with the byte after it at a place
+unfoldable pub pair_at : (ℕ → ℕ → Option (ℕ × ℕ)) → ℕ → ℕ → Option (ℕ × ℕ)
+pair_at r close at = then_read (r 0x2D at) (λ a i. then_read (r close i) (λ b j. ends_of a b j))
 
-abbrev pub then_line : Half → (ℕ → ℕ → ℕ → ℕ → Read) → Read
-then_line NoHalf g = NoLine
-then_line (Three a b c i) g = g a b c i
+-- a reader answers what r says, of the byte that closes and the place
+pub record Reader (post : ℕ → ℕ → Option (ℕ × ℕ) → Type 0) (r : ℕ → ℕ → Option (ℕ × ℕ)) : Type 0 where
+  pub reads : (at close : ℕ) → close < 256 → (x : Option (ℕ × ℕ)) → post at close x → x ≡ r close at
 
--- low to high, low not above high
-unfoldable pub ends_of : ℕ → ℕ → ℕ → Ends
-ends_of lo hi at = cond (leb lo hi) (Between (word_of lo hi) at) NoRange
+-- of numbers to max
+abbrev pub range_at : ℕ → ℕ → List ℕ → ℕ → Option (ℕ × ℕ)
+range_at max close s at = pair_at (λ c i. closed_at max c s i) close at
 
--- `low-high` of numbers to max, and the byte that closes it
-unfoldable pub range_at : ℕ → ℕ → List ℕ → ℕ → Ends
-range_at max close s at = then_ends (closed_at max 0x2D s at) (λ a i. then_ends (closed_at max close s i) (λ b j. ends_of a b j))
+-- of dotted quads
+abbrev pub quads_at : ℕ → List ℕ → ℕ → Option (ℕ × ℕ)
+quads_at close s at = pair_at (λ c i. closed_quad_at c s i) close at
 
--- the same of dotted quads
-unfoldable pub quads_at : ℕ → List ℕ → ℕ → Ends
-quads_at close s at = then_ends (closed_quad_at 0x2D s at) (λ a i. then_ends (closed_quad_at close s i) (λ b j. ends_of a b j))
-
--- direction, protocol and opener
-unfoldable pub front_at : List ℕ → ℕ → Half
-front_at s at =
-    then_half (range_at 1 0x09 s at) (λ a i. then_half (range_at 255 0x09 s i) (λ b j. then_half (range_at 1 0x09 s j) (λ c k. Three a b c k)))
-
--- remote address, remote port and device port
-unfoldable pub back_at : List ℕ → ℕ → Half
-back_at s at =
-    then_half (quads_at 0x09 s at) (λ a i. then_half (range_at 65535 0x09 s i) (λ b j. then_half (range_at 65535 0x0A s j) (λ c k. Three a b c k)))
+-- the line at a place, of whatever flows, and the place after it
+unfoldable pub fields_at : List ℕ → ℕ → Option (struct.Line × ℕ)
+fields_at s at =
+    then_read (range_at 1 0x09 s at) (λ a i.
+    then_read (range_at 255 0x09 s i) (λ b j.
+    then_read (range_at 1 0x09 s j) (λ c k.
+    then_read (quads_at 0x09 s k) (λ d m.
+    then_read (range_at 65535 0x09 s m) (λ e n.
+    then_read (range_at 65535 0x0A s n) (λ f o.
+    Some (record { direction = a; protocol = b; opener = c; address = d; remote = e; device = f }, o)))))))
 
 -- a line's flows only
 abbrev pub flows_of : struct.Line → Bool
 flows_of l = flow_ends (l.protocol / 4294967296) (l.protocol % 4294967296) (l.opener % 4294967296) (l.remote % 4294967296) (l.device % 4294967296)
 
-unfoldable pub keep_flows : struct.Line → ℕ → Read
-keep_flows l n = cond (flows_of l) (Got l n) NoLine
+unfoldable pub keep_flows : struct.Line → ℕ → Option (struct.Line × ℕ)
+keep_flows l n = cond (flows_of l) (Some (l, n)) None
 
--- the line at a place, with flows only, and the place after it
-unfoldable pub line_at : List ℕ → ℕ → Read
-line_at s at =
-    then_line (front_at s at) (λ a b c i. then_line (back_at s i) (λ d e f o.
-    keep_flows (record { direction = a; protocol = b; opener = c; address = d; remote = e; device = f }) o))
+-- the line at a place, with flows only
+unfoldable pub line_at : List ℕ → ℕ → Option (struct.Line × ℕ)
+line_at s at = then_read (fields_at s at) keep_flows
+
+-- a line's words, in the order of the dimensions
+abbrev pub words : struct.Line → List ℕ
+words l = l.direction ∷ (l.protocol ∷ (l.opener ∷ (l.address ∷ (l.remote ∷ (l.device ∷ [])))))
 
 -- a line's ranges, in the order of the dimensions
 unfoldable pub ranges : struct.Line → Line

@@ -1,5 +1,5 @@
 -- The lines of a text, each by a mark: what the functions that read and compare them answer. (Cited by inner functions only.)
-use Rattle.std.specs.Prelude.{ℕ, suc, ◌+◌, ◌-◌, ◌/◌, ◌%◌, ◌≤◌, ◌<◌, ◌≡◌, List, [], ◌∷◌, Bool, true, ◌&&◌, ◌||◌, cond, length, get_or, drop, ltb, leb, eqb}
+use Rattle.std.specs.Prelude.{ℕ, suc, ◌-◌, ◌/◌, ◌%◌, ◌≤◌, ◌<◌, ◌≡◌, List, [], ◌∷◌, Bool, true, ◌&&◌, ◌||◌, cond, length, get_or, drop, ltb, leb, eqb, count_by, Some, None}
 use Rattle.flows.specs.Table.{Range, Line, Table, Point, in_table}
 use Rattle.flows.specs.Canonical.{low_end, high_end}
 use Rattle.stored.specs.Text.{nth}
@@ -8,7 +8,6 @@ use Rattle.stored.specs.Stored.{lines, stop}
 use Rattle.stored.specs.Words.{Fits}
 use Rattle.stored.specs.Groups.{row, differ_of}
 use Rattle.stored.specs.declared.lines.Line as struct
-use Rattle.stored.specs.declared.lines.Read.TheVariants.{Got, NoLine}
 use Rattle.stored.specs.declared.verdict.Gathered.{Gathered}
 
 -- how a range stands to the one before it: 0 not above it, 1 next to it, 2 further up
@@ -25,7 +24,7 @@ pub record Related (x y : Line) (r : ℕ) : Type 0 where
 pub record EndsAt (s : List ℕ) (e : ℕ) (l : Line) : Type 0 where
   pub from : ℕ
   pub line : struct.Line
-  pub read : Got line e ≡ line_at s from
+  pub read : Some (line, e) ≡ line_at s from
   pub is : ranges line ≡ l
 
 -- the mark of line k: 64 times the place where it ends, and the number of the line before it and this one
@@ -50,18 +49,9 @@ same_back left [] ys = eqb left 0
 same_back left (x ∷ xs) [] = eqb left 0
 same_back left (x ∷ xs) (y ∷ ys) = cond (eqb left 0) true (eqb x y && same_back (cond (eqb x 0x09) (left - 1) left) xs ys)
 
--- eight bytes from a place on, last byte first, and how many of them are tabs
-abbrev pub eight_back : List ℕ → ℕ → List ℕ
-eight_back s k =
-    get_or s (k + 7) 0
-    ∷ (get_or s (k + 6) 0 ∷ (get_or s (k + 5) 0 ∷ (get_or s (k + 4) 0 ∷ (get_or s (k + 3) 0 ∷ (get_or s (k + 2) 0 ∷ (get_or s (k + 1) 0 ∷ (get_or s k 0 ∷ [])))))))
-
-abbrev pub tab_of : ℕ → ℕ
-tab_of x = cond (eqb x 0x09) 1 0
-
-abbrev pub tabs_in : List ℕ → ℕ
-tabs_in [] = 0
-tabs_in (x ∷ xs) = tab_of x + tabs_in xs
+-- how many bytes of a text are tabs
+abbrev pub tabs_of : List ℕ → ℕ
+tabs_of s = count_by (λ b. eqb b 0x09) s
 
 -- the first n lines of a text s have marks, and the others stand from a place on; whether one of the first holds the point
 pub record Gathering (s : List ℕ) (p : Point) (ms : List ℕ) (n at : ℕ) (before : struct.Line) (hit : Bool) : Type 0 where
@@ -78,4 +68,4 @@ pub record Gathering (s : List ℕ) (p : Point) (ms : List ℕ) (n at : ℕ) (be
 pub record AllGathered (s : List ℕ) (p : Point) (ms : List ℕ) (r : Gathered) : Type 0 where
   pub before : struct.Line
   pub part : Gathering s p ms r.count r.stop before r.hit
-  pub done : r.count < 512 → NoLine ≡ line_at s r.stop
+  pub done : r.count < 512 → None ≡ line_at s r.stop

@@ -1,21 +1,22 @@
 -- Stored tables and their verdicts (document 01, 'Answer numbers and their order': "a stored table is 36,864 bytes: the lines, at most
 -- 512, of the table of some set of flows, then zeros", "Verdicts give 13, then 14, or accept or drop").
-use Rattle.std.specs.Prelude.{ℕ, suc, List, [], ◌∷◌, Bool, true, ◌&&◌, cond, length, drop, leb, eqb}
-use Rattle.text.specs.Walk.{Item, item, no_item, items_from, end_from}
+use Rattle.std.specs.Prelude.{ℕ, suc, List, [], ◌∷◌, Bool, true, ◌&&◌, cond, length, drop, leb, eqb, Option, Some, None, Result, Ok, Err}
+use Rattle.text.specs.Walk.{items_from, end_from}
 use Rattle.flows.specs.Table.{Line, Table, in_table}
 use Rattle.flows.specs.Flow.{widths, is_flow}
 use Rattle.flows.specs.Canonical.{canonical}
 use Rattle.flows.specs.Numbers.{point_of}
 use Rattle.flows.specs.declared.Numbers as numbers
+use Rattle.stored.specs.declared.lines.Line as struct
 use Rattle.stored.specs.Line.{line_at, ranges}
-use Rattle.stored.specs.declared.lines.Read.{Read}
-use Rattle.stored.specs.declared.lines.Read.TheVariants.{Got, NoLine}
 use Rattle.stored.specs.declared.answer.Verdict.{Verdict}
-use Rattle.stored.specs.declared.answer.Verdict.TheVariants.{NotTable, NotFlow, Accept, Drop}
+use Rattle.stored.specs.declared.answer.Verdict.TheVariants.{Accept, Drop}
+use Rattle.stored.specs.declared.answer.Refusal.{Refusal}
+use Rattle.stored.specs.declared.answer.Refusal.TheVariants.{NotTable, NotFlow}
 
-abbrev pub item_of : Read → Item Line
-item_of NoLine = no_item
-item_of (Got l n) = item (ranges l) n
+abbrev pub item_of : Option (struct.Line × ℕ) → Option (Line × ℕ)
+item_of None = None
+item_of (Some (l, n)) = Some (ranges l, n)
 
 -- the lines from a place on, as many as can be read one after the other, and the place after them
 unfoldable pub lines : List ℕ → ℕ → Table
@@ -33,13 +34,12 @@ unfoldable pub stored_of : List ℕ → Bool
 stored_of s =
     eqb (length s) 36864 && (canonical widths (lines s 0) && (leb (length (lines s 0)) 512 && all_zero (drop (stop s 0) s)))
 
-unfoldable pub verdict_of : List ℕ → numbers.Numbers → Verdict
+unfoldable pub verdict_of : List ℕ → numbers.Numbers → Result Verdict Refusal
 verdict_of s f =
-    cond (stored_of s) (cond (is_flow (point_of f)) (cond (in_table (lines s 0) (point_of f)) Accept Drop) NotFlow) NotTable
+    cond (stored_of s) (cond (is_flow (point_of f)) (Ok (cond (in_table (lines s 0) (point_of f)) Accept Drop)) (Err NotFlow)) (Err NotTable)
 
 -- the answer's number: 13, 14, or 0 where the question is taken and the answer is accept or drop
-abbrev pub verdict_number : Verdict → ℕ
-verdict_number NotTable = 13
-verdict_number NotFlow = 14
-verdict_number Accept = 0
-verdict_number Drop = 0
+abbrev pub verdict_number : Result Verdict Refusal → ℕ
+verdict_number (Err NotTable) = 13
+verdict_number (Err NotFlow) = 14
+verdict_number (Ok v) = 0

@@ -1,8 +1,13 @@
 // What a stored table answers on a flow; specs/Stored.antt has the numbers of the refusals.
-#[derive(Clone, Copy)]
+#[derive(Clone, Copy, Debug, PartialEq, Eq)]
 pub enum Verdict {
-    NotTable,
-    NotFlow,
     Accept,
     Drop,
+}
+
+// Why there is no verdict: the bytes are no table, or the numbers are no flow.
+#[derive(Clone, Copy, Debug, PartialEq, Eq)]
+pub enum Refusal {
+    NotTable,
+    NotFlow,
 }

@@ -1,6 +1,8 @@
 // Whether the lines of a text are the table of some set, tested over the dimensions, six to none. Each line has a mark of 32 bits: 64 times the place
 // where it ends, 8 times how its range stands to that of the line before it in the first dimension in which they differ, and that dimension.
-ghost use Rattle.std.specs.Prelude.{◌≡◌, cond, reverse, ◌+◌, ◌-◌, ◌≤◌, ◌<◌, ◌/◌, length, get_or, take, eqb};
+#![tactic(auto, using(crate::proofs::WordLaws::relating, crate::proofs::Tails::comparing))]
+
+ghost use Rattle.std.specs.Prelude.{◌≡◌, reverse, ◌-◌, ◌≤◌, ◌<◌, ◌/◌, length, get_or, take};
 ghost use Rattle.flows.specs.Table.{eq_table};
 ghost use Rattle.flows.specs.Flow.{widths};
 ghost use Rattle.flows.specs.Canonical.{canonical};
@@ -8,269 +10,209 @@ ghost use Rattle.stored.specs.Line.{ranges};
 ghost use Rattle.stored.specs.Stored.{lines};
 ghost use Rattle.stored.specs.Words.{range_of};
 ghost use Rattle.stored.specs.Groups.{row, rows, under, follow_at, Grouped, Next};
-ghost use Rattle.stored.specs.Marks.{step_of, Related, Marked, marked_in, same_back, eight_back, tab_of, tabs_in};
+ghost use Rattle.stored.specs.Marks.{step_of, Related, Marked, marked_in, same_back, tabs_of};
 
-use crate::chunks;
 use crate::lines::Line;
 
-// Where a group of lines ends, if it is a table's.
+// The lines of a text, each by its mark.
 #[derive(Clone, Copy)]
-pub struct Ran {
-    pub good: bool,
-    pub end: usize,
+struct Table<'a> {
+    s: &'a [u8],
+    marks: &'a [u32],
+    ghost marked: { ∥ Marked s.now marks.now (lines s.now 0) (length marks.now) ∥₁ },
 }
 
-// How a range stands to the one before it: 0 not above it, 1 next to it, 2 further up.
+// How a range stands to the one before it: 0 not above it, 1 next to it, 2 further up. (A number, since a mark packs it into 32 bits.)
+#[tactic(auto, unfolding(crate::specs::Marks::step_of))]
 fn step(x: u64, y: u64) -> u32
     ensures { (result ≡ step_of (range_of x) (range_of y)) × (result ≤ 2) }
 {
-    let p = x % 4294967296;
-    let q = y / 4294967296;
-    if q <= p {
-        return 0;
+    let end = x % 4294967296;
+    let next = y / 4294967296;
+    if next <= end {
+        0
+    } else if next - end == 1 {
+        1
+    } else {
+        2
     }
-    if q - p == 1 {
-        return 1;
-    }
-    2
 }
 
 // The first dimension in which two lines differ, and 8 times how the ranges stand there.
 pub fn relate(a: Line, b: Line) -> u32
     ensures { Related (ranges a) (ranges b) result }
 {
-    if a.direction != b.direction {
-        return step(a.direction, b.direction) * 8;
-    }
-    if a.protocol != b.protocol {
-        return step(a.protocol, b.protocol) * 8 + 1;
-    }
-    if a.opener != b.opener {
-        return step(a.opener, b.opener) * 8 + 2;
-    }
-    if a.address != b.address {
-        return step(a.address, b.address) * 8 + 3;
-    }
-    if a.remote != b.remote {
-        return step(a.remote, b.remote) * 8 + 4;
-    }
-    if a.device != b.device {
-        return step(a.device, b.device) * 8 + 5;
+    let xs = a.words();
+    let ys = b.words();
+    for d in 0..6 {
+        if xs[d] != ys[d] {
+            return step(xs[d], ys[d]) * 8 + d as u32;
+        }
     }
     6
 }
 
-fn wide(x: u32) -> usize
-    ensures { result ≡ x }
+// Whether two texts are the same from their ends on, up to as many tabs.
+fn alike_bytes(a: &[u8], b: &[u8], tabs: usize) -> bool
+    ensures { result ≡ same_back tabs (reverse a.now) (reverse b.now) }
 {
-    x as usize
-}
-
-// Where a line ends.
-fn end(marks: &[u32], k: usize) -> usize
-    requires { k < length marks.now }
-    ensures { result ≡ get_or marks.now k 0 / 64 }
-{
-    wide(marks[k] / 64)
-}
-
-// Whether a line has a mark and is the same as the one before it, before dimension `d`.
-fn member(marks: &[u32], n: usize, at: usize, d: usize) -> bool
-    requires { n ≤ length marks.now }
-    ensures { result ≡ marked_in d marks.now n at }
-{
-    if n <= at {
-        return false;
-    }
-    d <= wide(marks[at] % 8)
-}
-
-fn less(tabs: usize, b: u8) -> usize
-    requires { 0 < tabs }
-    ensures { result ≡ cond (eqb b 0x09) (tabs - 1) tabs }
-{
-    if b == b'\t' {
-        return tabs - 1;
-    }
-    tabs
-}
-
-// Whether the texts before two places are the same up to as many tabs, last byte first.
-fn alike_bytes(s: &[u8], a: usize, b: usize, tabs: usize) -> bool
-    requires { (a ≤ length s.now) × (b ≤ length s.now) }
-    ensures { result ≡ same_back tabs (reverse (take a s.now)) (reverse (take b s.now)) }
-{
-    let mut i = a;
-    let mut j = b;
+    let mut xs = a;
+    let mut ys = b;
     let mut left = tabs;
     while left > 0 {
-        if i == 0 {
+        let (Some((x, p)), Some((y, q))) = (xs.split_last(), ys.split_last()) else {
+            return false;
+        };
+        if x != y {
             return false;
         }
-        if j == 0 {
-            return false;
+        if *x == b'\t' {
+            left -= 1;
         }
-        i -= 1;
-        j -= 1;
-        if s[i] != s[j] {
-            return false;
-        }
-        left = less(left, s[i]);
+        xs = p;
+        ys = q;
     }
     true
 }
 
-fn tab(b: u8) -> usize
-    ensures { (result ≡ tab_of b) × (result ≤ 1) }
+// A `for` over eight bytes becomes code without a branch (`filter` and `count` do not).
+fn tabs_in(s: &[u8; 8]) -> usize
+    ensures { result ≡ tabs_of s.now }
 {
-    if b == b'\t' {
-        return 1;
+    let mut n = 0;
+    for b in s {
+        if *b == b'\t' {
+            n += 1;
+        }
     }
-    0
-}
-
-// How many of eight bytes are tabs: without a branch for each.
-fn tabs_in(s: &[u8], at: usize) -> usize
-    requires { at + 8 ≤ length s.now }
-    ensures { result ≡ tabs_in (eight_back s.now at) }
-{
-    let a = tab(s[at]) + tab(s[at + 1]) + tab(s[at + 2]) + tab(s[at + 3]);
-    a + tab(s[at + 4]) + tab(s[at + 5]) + tab(s[at + 6]) + tab(s[at + 7])
+    n
 }
 
 // The same, eight bytes at once as long as they agree: so the last dimensions of two lines are compared without looking for where they begin.
-fn alike(s: &[u8], a: usize, b: usize, tabs: usize) -> bool
-    requires { (a ≤ length s.now) × (b ≤ length s.now) }
-    ensures { result ≡ same_back tabs (reverse (take a s.now)) (reverse (take b s.now)) }
+fn alike(a: &[u8], b: &[u8], tabs: usize) -> bool
+    ensures { result ≡ same_back tabs (reverse a.now) (reverse b.now) }
 {
-    let mut i = a;
-    let mut j = b;
+    let mut xs = a;
+    let mut ys = b;
     let mut left = tabs;
-    while left > 0 {
-        if i < 8 {
-            return alike_bytes(s, i, j, left);
+    while let (Some((p, x)), Some((q, y))) = (
+        xs.split_last_chunk::<8>(),
+        ys.split_last_chunk::<8>(),
+    ) {
+        if x != y {
+            break;
         }
-        if j < 8 {
-            return alike_bytes(s, i, j, left);
-        }
-        let p = i - 8;
-        let q = j - 8;
-        if chunks::eight(s, p) != chunks::eight(s, q) {
-            return alike_bytes(s, i, j, left);
-        }
-        let c = tabs_in(s, p);
-        if left <= c {
+        let n = tabs_in(x);
+        if left <= n {
             return true;
         }
-        left -= c;
-        i = p;
-        j = q;
+        left -= n;
+        xs = p;
+        ys = q;
     }
-    true
+    alike_bytes(xs, ys, left)
 }
 
-// Whether the groups of the lines at `a` and `b`, each of lines that are the same before dimension `d`, are the same from `d` on.
-fn same(s: &[u8], marks: &[u32], n: usize, a: usize, b: usize, d: usize) -> bool
-    requires { Marked s.now marks.now (lines s.now 0) n × (a < b) × (b < n) × (0 < d) × (d ≤ 6) }
-    ensures { result ≡ eq_table (under d (row (lines s.now 0) a) (rows (lines s.now 0) a)) (under d (row (lines s.now 0) b) (rows (lines s.now 0) b)) }
-{
-    let mut i = a;
-    let mut j = b;
-    loop {
-        if !alike(s, end(marks, i), end(marks, j), 6 - d) {
-            return false;
-        }
-        i += 1;
-        j += 1;
-        let x = member(marks, n, i, d);
-        let y = member(marks, n, j, d);
-        if !x {
-            if y {
+impl Table<'_> {
+    // The text as far as the end of a line.
+    fn up_to(&self, k: usize) -> &[u8]
+        requires { k < length self.now.marks.now }
+        ensures { result.now ≡ take (get_or self.now.marks.now k 0 / 64) self.now.s.now }
+    {
+        &self.s[..(self.marks[k] / 64) as usize]
+    }
+
+    // Whether there is a line at `at` that is the same as the one before it, before dimension `d`.
+    #[tactic(auto, unfolding(crate::specs::Marks::marked_in))]
+    fn member(&self, at: usize, d: usize) -> bool
+        ensures { result ≡ marked_in d self.now.marks.now (length self.now.marks.now) at }
+    {
+        at < self.marks.len() && d <= (self.marks[at] % 8) as usize
+    }
+
+    // Whether the groups of the lines at `a` and `b`, each of lines that are the same before dimension `d`, are the same from `d` on.
+    #[tactic(auto, using(crate::proofs::Turning::pairing))]
+    fn same(&self, a: usize, b: usize, d: usize) -> bool
+        requires { (a < b) × (b < length self.now.marks.now) × (0 < d) × (d ≤ 6) }
+        ensures { result ≡ eq_table (under d (row (lines self.now.s.now 0) a) (rows (lines self.now.s.now 0) a)) (under d (row (lines self.now.s.now 0) b) (rows (lines self.now.s.now 0) b)) }
+    {
+        let mut i = a;
+        let mut j = b;
+        // No `for`: two places move at once, and the marks say where each group ends.
+        loop {
+            if !alike(self.up_to(i), self.up_to(j), 6 - d) {
                 return false;
             }
-            return true;
+            i += 1;
+            j += 1;
+            let more = self.member(i, d);
+            if more != self.member(j, d) {
+                return false;
+            }
+            if !more {
+                return true;
+            }
         }
-        if !y {
-            return false;
+    }
+
+    // Whether the run of the line at `k` may follow that of the line at `i` in dimension `d`.
+    #[tactic(auto, using(crate::proofs::Turning::following))]
+    fn follows(&self, i: usize, k: usize, d: usize) -> bool
+        requires { Next d (lines self.now.s.now 0) i k }
+        ensures { result ≡ follow_at d (lines self.now.s.now 0) i k }
+    {
+        match self.marks[k] / 8 % 8 {
+            0 => false,
+            1 => !self.same(i, k, d + 1),
+            _ => true,
+        }
+    }
+
+    // The group of one line, that no other line may be the same as.
+    #[tactic(auto, using(crate::proofs::Turning::walking))]
+    fn single(&self, at: usize) -> Option<usize>
+        requires { at < length self.now.marks.now }
+        ensures { Grouped 6 (row (lines self.now.s.now 0) at) (lines self.now.s.now 0) at result }
+    {
+        if self.member(at + 1, 6) {
+            return None;
+        }
+        Some(at + 1)
+    }
+
+    // The place after the group of the lines from `at` on that are the same before dimension `d`, if it is a table's: its runs in
+    // dimension `d` rise, none is alike to one that it touches, and each is a table of one dimension fewer.
+    #[tactic(auto, using(crate::proofs::Turning::walking))]
+    fn group(&self, at: usize, d: usize) -> Option<usize>
+        requires { (d ≤ 6) × (at < length self.now.marks.now) }
+        ensures { Grouped d (row (lines self.now.s.now 0) at) (lines self.now.s.now 0) at result }
+    {
+        if d == 6 {
+            return self.single(at);
+        }
+        let mut i = at;
+        loop {
+            let k = self.group(i, d + 1)?;
+            if !self.member(k, d) {
+                return Some(k);
+            }
+            if !self.follows(i, k, d) {
+                return None;
+            }
+            i = k;
         }
     }
 }
 
-// Whether the run of the line at `k` may follow that of the line at `i` in dimension `d`.
-fn follows(s: &[u8], marks: &[u32], n: usize, i: usize, k: usize, d: usize) -> bool
-    requires { Marked s.now marks.now (lines s.now 0) n × Next d (lines s.now 0) i k }
-    ensures { result ≡ follow_at d (lines s.now 0) i k }
-{
-    let how = marks[k] / 8 % 8;
-    if how == 0 {
-        return false;
-    }
-    if how == 1 {
-        if same(s, marks, n, i, k, d + 1) {
-            return false;
-        }
-        return true;
-    }
-    true
-}
-
-// The group of one line, that no other line may be the same as.
-fn single(s: &[u8], marks: &[u32], n: usize, at: usize) -> Ran
-    requires { Marked s.now marks.now (lines s.now 0) n × (at < n) }
-    ensures { Grouped 6 (row (lines s.now 0) at) (lines s.now 0) at result }
-{
-    let next = at + 1;
-    if member(marks, n, next, 6) {
-        return Ran {
-            good: false,
-            end: next,
-        };
-    }
-    Ran {
-        good: true,
-        end: next,
-    }
-}
-
-// The group of the lines from `at` on that are the same before dimension `d`: its runs in dimension `d` rise, none is alike to one that it touches, and
-// each is a table of one dimension fewer.
-fn group(s: &[u8], marks: &[u32], n: usize, at: usize, d: usize) -> Ran
-    requires { Marked s.now marks.now (lines s.now 0) n × (d ≤ 6) × (at < n) }
-    ensures { Grouped d (row (lines s.now 0) at) (lines s.now 0) at result }
-{
-    if d == 6 {
-        return single(s, marks, n, at);
-    }
-    let mut i = at;
-    loop {
-        let g = group(s, marks, n, i, d + 1);
-        let k = g.end;
-        if !g.good {
-            return Ran {
-                good: false,
-                end: k,
-            };
-        }
-        if !member(marks, n, k, d) {
-            return Ran { good: true, end: k };
-        }
-        if !follows(s, marks, n, i, k, d) {
-            return Ran {
-                good: false,
-                end: k,
-            };
-        }
-        i = k;
-    }
-}
-
-// Whether the lines of a text are the table of some set.
+// Whether the lines of a text are the table of some set. The first `n` marks are theirs.
+#[tactic(auto, using(crate::proofs::Turning::walking))]
 pub fn is_table(s: &[u8], marks: &[u32], n: usize) -> bool
     requires { Marked s.now marks.now (lines s.now 0) n }
     ensures { result ≡ canonical widths (lines s.now 0) }
 {
-    if n == 0 {
-        return true;
-    }
-    group(s, marks, n, 0, 0).good
+    let table = Table {
+        s,
+        marks: &marks[..n],
+    };
+    n == 0 || table.group(0, 0).is_some()
 }

@@ -1,13 +1,14 @@
 // One line of a stored table, read at a place.
-ghost use Rattle.std.specs.Prelude.{◌≡◌, ◌&&◌, ◌/◌, ◌%◌, eqb};
-ghost use Rattle.stored.specs.Line.{ends_of, range_at, quads_at, flows_of, front_at, back_at, line_at};
+#![tactic(auto, using(crate::proofs::BitLaws::telling), unfolding(crate::specs::Line::ends_of, crate::specs::Line::pair_at, crate::specs::Line::fields_at, crate::specs::Line::keep_flows, crate::specs::Line::line_at, flows::specs::Canonical::flow_ends))]
+
+ghost use Rattle.std.specs.Prelude.{◌≡◌, ℕ, Option, ◌&&◌, ◌/◌, ◌%◌, eqb};
+ghost use Rattle.stored.specs.Line.{ends_of, pair_at, Reader, range_at, quads_at, flows_of, line_at, words};
 
 use crate::chunks;
 use text::numbers;
-use text::numbers::Digits;
 
 // A line: a word for each range, low * 2^32 + high. (One word and no struct of two halves: it is returned and stored as a whole.)
-#[derive(Clone, Copy)]
+#[derive(Clone, Copy, Default)]
 pub struct Line {
     pub direction: u64,
     pub protocol: u64,
@@ -17,164 +18,113 @@ pub struct Line {
     pub device: u64,
 }
 
-// A range and the place after it.
-#[derive(Clone, Copy)]
-pub enum Ends {
-    Between(u64, usize),
-    NoRange,
+impl Line {
+    // The words, in the order of the dimensions.
+    pub(crate) fn words(self) -> [u64; 6]
+        ensures { result ≡ words self }
+    {
+        [
+            self.direction,
+            self.protocol,
+            self.opener,
+            self.address,
+            self.remote,
+            self.device,
+        ]
+    }
 }
 
-// Three ranges of a line and the place after them.
-#[derive(Clone, Copy)]
-pub enum Half {
-    Three(u64, u64, u64, usize),
-    NoHalf,
-}
-
-// A line and the place after it.
-#[derive(Clone, Copy)]
-pub enum Read {
-    Got(Line, usize),
-    NoLine,
-}
-
-fn in_order(low: u32, high: u32, at: usize) -> Ends
+// The range low-high, where low is not above high.
+fn in_order(low: u32, high: u32, at: usize) -> Option<(u64, usize)>
     ensures { result ≡ ends_of low high at }
 {
     if low <= high {
-        return Ends::Between(low as u64 * 4294967296 + high as u64, at);
+        Some((low as u64 * 4294967296 + high as u64, at))
+    } else {
+        None
     }
-    Ends::NoRange
 }
 
-// `low-high` of numbers to `max`, and the byte `close`.
-fn range(s: &[u8], at: usize, max: u32, close: u8) -> Ends
+// `low-high` and the byte `close`, each end as `read` reads it with the byte after it; then the place after them.
+fn pair<F: Fn(usize, u8) -> Option<(u32, usize)>>(
+    at: usize,
+    close: u8,
+    read: F,
+) -> Option<(u64, usize)>
+    requires { F.IsAlwaysCallable read }
+    ensures { (r : ℕ → ℕ → Option (ℕ × ℕ)) → Reader (F.post read) r → result ≡ pair_at r close at }
+{
+    let (low, i) = read(at, b'-')?;
+    let (high, j) = read(i, close)?;
+    in_order(low, high, j)
+}
+
+// Of numbers to `max`.
+fn range(s: &[u8], at: usize, max: u32, close: u8) -> Option<(u64, usize)>
     ensures { result ≡ range_at max close s.now at }
 {
-    let Digits::Number(a, i) = numbers::closed(s, at, max, b'-') else {
-        return Ends::NoRange;
-    };
-    let Digits::Number(b, j) = numbers::closed(s, i, max, close) else {
-        return Ends::NoRange;
-    };
-    in_order(a, b, j)
+    pair(at, close, |i, c| numbers::closed(s, i, max, c))
 }
 
-// The same of dotted quads.
-fn quads(s: &[u8], at: usize, close: u8) -> Ends
+// Of dotted quads.
+fn quads(s: &[u8], at: usize, close: u8) -> Option<(u64, usize)>
     ensures { result ≡ quads_at close s.now at }
 {
-    let Digits::Number(a, i) = numbers::closed_quad(s, at, b'-') else {
-        return Ends::NoRange;
-    };
-    let Digits::Number(b, j) = numbers::closed_quad(s, i, close) else {
-        return Ends::NoRange;
-    };
-    in_order(a, b, j)
+    pair(at, close, |i, c| numbers::closed_quad(s, i, c))
 }
 
 // The same of numbers to 1 and a tab: `0-0`, `0-1` or `1-1`, told by four bytes at once.
-fn bits(s: &[u8], at: usize) -> Ends
+fn bits(s: &[u8], at: usize) -> Option<(u64, usize)>
     ensures { result ≡ range_at 1 0x09 s.now at }
 {
-    if s.len() <= at {
-        return Ends::NoRange;
+    if s.len() <= at || s.len() - at < 4 {
+        return None;
     }
-    if s.len() - at < 4 {
-        return Ends::NoRange;
+    match chunks::four(s, at) {
+        0x09302D30 => Some((0, at + 4)),
+        0x09312D30 => Some((1, at + 4)),
+        0x09312D31 => Some((4294967297, at + 4)),
+        _ => None,
     }
-    let w = chunks::four(s, at);
-    if w == 0x09302D30 {
-        return Ends::Between(0, at + 4);
-    }
-    if w == 0x09312D30 {
-        return Ends::Between(1, at + 4);
-    }
-    if w == 0x09312D31 {
-        return Ends::Between(4294967297, at + 4);
-    }
-    Ends::NoRange
 }
 
+// Whether a range is of one number alone.
 fn only(x: u64, k: u64) -> bool
     ensures { result ≡ (eqb (x / 4294967296) k && eqb (x % 4294967296) k) }
 {
-    if x / 4294967296 == k {
-        return x % 4294967296 == k;
-    }
-    false
+    x / 4294967296 == k && x % 4294967296 == k
 }
 
 // Whether the line has flows only.
 fn flows_only(l: Line) -> bool
     ensures { result ≡ flows_of l }
 {
-    if only(l.protocol, 6) {
-        return true;
-    }
-    if l.opener % 4294967296 != 0 {
-        return false;
-    }
-    if only(l.protocol, 17) {
-        return true;
-    }
-    if l.remote % 4294967296 != 0 {
-        return false;
-    }
-    l.device % 4294967296 == 0
+    let tcp = only(l.protocol, 6);
+    (tcp || l.opener % 4294967296 == 0)
+        && (tcp || only(l.protocol, 17) || l.remote % 4294967296 == 0 && l.device % 4294967296 == 0)
 }
 
-// Direction, protocol and opener.
-fn front(s: &[u8], at: usize) -> Half
-    ensures { result ≡ front_at s.now at }
-{
-    let Ends::Between(a, i) = bits(s, at) else {
-        return Half::NoHalf;
-    };
-    let Ends::Between(b, j) = range(s, i, 255, b'\t') else {
-        return Half::NoHalf;
-    };
-    let Ends::Between(c, k) = bits(s, j) else {
-        return Half::NoHalf;
-    };
-    Half::Three(a, b, c, k)
-}
-
-// Address, remote port and device port.
-fn back(s: &[u8], at: usize) -> Half
-    ensures { result ≡ back_at s.now at }
-{
-    let Ends::Between(a, i) = quads(s, at, b'\t') else {
-        return Half::NoHalf;
-    };
-    let Ends::Between(b, j) = range(s, i, 65535, b'\t') else {
-        return Half::NoHalf;
-    };
-    let Ends::Between(c, k) = range(s, j, 65535, b'\n') else {
-        return Half::NoHalf;
-    };
-    Half::Three(a, b, c, k)
-}
-
-pub fn line_at(s: &[u8], at: usize) -> Read
+// The line at a place, if it has flows only, and the place after it.
+pub fn line_at(s: &[u8], at: usize) -> Option<(Line, usize)>
     ensures { result ≡ line_at s.now at }
 {
-    let Half::Three(a, b, c, i) = front(s, at) else {
-        return Read::NoLine;
-    };
-    let Half::Three(d, e, f, o) = back(s, i) else {
-        return Read::NoLine;
-    };
+    let (direction, i) = bits(s, at)?;
+    let (protocol, j) = range(s, i, 255, b'\t')?;
+    let (opener, k) = bits(s, j)?;
+    let (address, m) = quads(s, k, b'\t')?;
+    let (remote, n) = range(s, m, 65535, b'\t')?;
+    let (device, after) = range(s, n, 65535, b'\n')?;
     let l = Line {
-        direction: a,
-        protocol: b,
-        opener: c,
-        address: d,
-        remote: e,
-        device: f,
+        direction,
+        protocol,
+        opener,
+        address,
+        remote,
+        device,
     };
     if flows_only(l) {
-        return Read::Got(l, o);
+        Some((l, after))
+    } else {
+        None
     }
-    Read::NoLine
 }

@@ -1,9 +1,11 @@
 // A line of a table, written as text.
+#![tactic(auto, using(crate::proofs::Putting::putting))]
+
 ghost use Rattle.std.specs.Prelude.{◌+◌, ◌≤◌, length};
 ghost use Rattle.text.specs.Written.{Put};
 ghost use Rattle.stored.specs.Line.{ranges};
 ghost use Rattle.stored.specs.Text.{line_text};
-ghost use Rattle.stored.specs.Writing.{range_parts, quad_parts, front_parts, back_parts};
+ghost use Rattle.stored.specs.Writing.{range_parts, quad_parts};
 
 use crate::lines::Line;
 use text::written;
@@ -19,7 +21,7 @@ fn put_range(buf: &mut [u8], at: usize, x: u64, close: u8) -> usize
     written::put_byte(buf, r, close)
 }
 
-// The same of dotted quads.
+// The same of dotted quads. (A trait for how an end is written would take more lines than the two that differ here.)
 fn put_quads(buf: &mut [u8], at: usize, x: u64, close: u8) -> usize
     requires { at + length (quad_parts close x) ≤ length buf.old }
     ensures { Put buf.old at (quad_parts close x) result buf.new }
@@ -30,31 +32,15 @@ fn put_quads(buf: &mut [u8], at: usize, x: u64, close: u8) -> usize
     written::put_byte(buf, r, close)
 }
 
-// Direction, protocol and opener.
-fn put_front(buf: &mut [u8], at: usize, a: u64, b: u64, c: u64) -> usize
-    requires { at + length (front_parts a b c) ≤ length buf.old }
-    ensures { Put buf.old at (front_parts a b c) result buf.new }
-{
-    let p = put_range(buf, at, a, b'\t');
-    let q = put_range(buf, p, b, b'\t');
-    put_range(buf, q, c, b'\t')
-}
-
-// Address, remote port and device port.
-fn put_back(buf: &mut [u8], at: usize, a: u64, b: u64, c: u64) -> usize
-    requires { at + length (back_parts a b c) ≤ length buf.old }
-    ensures { Put buf.old at (back_parts a b c) result buf.new }
-{
-    let p = put_quads(buf, at, a, b'\t');
-    let q = put_range(buf, p, b, b'\t');
-    put_range(buf, q, c, b'\n')
-}
-
 // A line; the place after it.
 pub fn put_line(buf: &mut [u8], at: usize, l: Line) -> usize
     requires { at + length (line_text (ranges l)) ≤ length buf.old }
     ensures { Put buf.old at (line_text (ranges l)) result buf.new }
 {
-    let p = put_front(buf, at, l.direction, l.protocol, l.opener);
-    put_back(buf, p, l.address, l.remote, l.device)
+    let i = put_range(buf, at, l.direction, b'\t');
+    let j = put_range(buf, i, l.protocol, b'\t');
+    let k = put_range(buf, j, l.opener, b'\t');
+    let m = put_quads(buf, k, l.address, b'\t');
+    let n = put_range(buf, m, l.remote, b'\t');
+    put_range(buf, n, l.device, b'\n')
 }

@@ -9,27 +9,13 @@ use files::read_full;
 use std::fs::File;
 use std::io;
 use std::io::{BufReader, BufWriter, Read, Write};
-use stored::answer::Verdict;
-
-fn wide(b: u8) -> usize
-    ensures { result ≤ 255 }
-{
-    b as usize
-}
+use stored::answer::{Refusal, Verdict};
 
 // A length of three bytes; the first of the four is 0.
 fn length_at(head: &[u8; 24], at: usize) -> usize
     requires { at ≤ 8 }
 {
-    wide(head[at + 1]) * 65536 + wide(head[at + 2]) * 256 + wide(head[at + 3])
-}
-
-fn port(high: u8, low: u8) -> u16 {
-    high as u16 * 256 + low as u16
-}
-
-fn address(a: u8, b: u8, c: u8, d: u8) -> u32 {
-    a as u32 * 16777216 + b as u32 * 65536 + c as u32 * 256 + d as u32
+    u32::from_be_bytes([0, head[at + 1], head[at + 2], head[at + 3]]) as usize
 }
 
 fn flow(head: &[u8; 24]) -> flows::Numbers {
@@ -37,9 +23,9 @@ fn flow(head: &[u8; 24]) -> flows::Numbers {
         direction: head[12],
         protocol: flows::Protocol(head[13]),
         opener: head[14],
-        address: flows::Address(address(head[15], head[16], head[17], head[18])),
-        remote: flows::RemotePort(port(head[19], head[20])),
-        device: flows::DevicePort(port(head[21], head[22])),
+        address: flows::Address(u32::from_be_bytes([head[15], head[16], head[17], head[18]])),
+        remote: flows::RemotePort(u16::from_be_bytes([head[19], head[20]])),
+        device: flows::DevicePort(u16::from_be_bytes([head[21], head[22]])),
     }
 }
 
@@ -53,12 +39,12 @@ fn load(cases: &mut impl Read, buf: &mut [u8], n: usize) -> io::Result<usize>
     read_full(cases, &mut buf[..n])
 }
 
-fn put_answer(out: &mut impl Write, v: Verdict) -> io::Result<()> {
-    match v {
-        Verdict::NotTable => out.write_all(b"\t13\n"),
-        Verdict::NotFlow => out.write_all(b"\t14\n"),
-        Verdict::Accept => out.write_all(b"\taccept\n"),
-        Verdict::Drop => out.write_all(b"\tdrop\n"),
+fn put_answer(out: &mut impl Write, answer: Result<Verdict, Refusal>) -> io::Result<()> {
+    match answer {
+        Ok(Verdict::Accept) => out.write_all(b"\taccept\n"),
+        Ok(Verdict::Drop) => out.write_all(b"\tdrop\n"),
+        Err(Refusal::NotTable) => out.write_all(b"\t13\n"),
+        Err(Refusal::NotFlow) => out.write_all(b"\t14\n"),
     }
 }
 

@@ -1,19 +1,14 @@
 -- Laws of `specs/Bytes.antt`. Assumes nothing.
 use Prim.Native.Nat.{ℕ, zero, suc, ◌≤◌, ◌<◌}
-use mathlib.Core.Path.{◌≡◌, sym}
+use mathlib.Core.Path.{◌≡◌}
 use mathlib.Core.List.{List, [], ◌∷◌}
 use mathlib.Core.Bool.{true, false}
 use native.Mathlib.Omega.{arith}
-use lib.ListN.{length, get_or-eq_default}
+use lib.ListN.{length}
 use lib.Dec.{leb, ltb, eqb}
-use borrow.Author.Rules.{rules}
-use borrow.Author.Tests.{leb-true, ltb-true, eqb-true, le-leb, lt-leb, lt-ltb, le-ltb}
+use borrow.Author.Tests.{leb-true, ltb-true, eqb-true, le-leb, lt-leb, lt-ltb}
 use Rattle.text.specs.Bytes.{byte_at, is_at, between, is_digit}
 use Rattle.text.proofs.Tests.{and_left, and_right}
-
--- past the end stands 0
-pub byte_out : (s : List ℕ) (at : ℕ) → length s ≤ at → 0 ≡ byte_at s at
-byte_out s at h = sym (get_or-eq_default s 0 h)
 
 -- a byte that is not 0 stands inside
 pub inside : (s : List ℕ) (at : ℕ) → 0 < byte_at s at → at < length s
@@ -24,10 +19,6 @@ inside (x ∷ xs) (suc at) h = let r : at < length xs = inside xs at h in omega 
 pub at_from : (s : List ℕ) (at b : ℕ) → at < length s → eqb (byte_at s at) b ≡ is_at s at b
 unfolding is_at
 at_from s at b h = rw (lt-ltb _ _ h)
-
-pub at_out : (s : List ℕ) (at b : ℕ) → length s ≤ at → false ≡ is_at s at b
-unfolding is_at
-at_out s at b h = rw (le-ltb _ _ h)
 
 -- what the test says
 pub at_inside : (s : List ℕ) (at b : ℕ) → is_at s at b ≡ true → at < length s
@@ -61,5 +52,3 @@ between_is low high b h k = rw (le-leb _ _ h, le-leb _ _ k)
 
 pub digit_inside : (s : List ℕ) (at : ℕ) → is_digit (byte_at s at) ≡ true → at < length s
 digit_inside s at e = inside s at (omega (arith, between_low 0x30 0x39 (byte_at s at) e))
-
-pub ruleset testing = (rules, byte_out, at_from, at_out, between_from, between_below)

@@ -4,6 +4,5 @@ pub mod WordLaws
 pub mod NumberLaws
 pub mod NetworkLaws
 pub mod WrittenLaws
-pub mod Clearing
 pub mod ReadBack
 pub mod Walk

@@ -10,12 +10,10 @@ use native.Mathlib.Omega.{arith}
 use borrow.Author.Rules.{rules}
 use lib.ListN.{length}
 use Rattle.text.specs.Bytes.{is_at}
-use Rattle.text.specs.Numbers.{number_at, quad_at}
-use Rattle.text.specs.Networks.{size_of, low_of, high_of, net_of, network_at, then_net}
-use Rattle.text.specs.declared.numbers.Digits.{Digits}
-use Rattle.text.specs.declared.numbers.Digits.TheVariants.{Number, NoNumber}
-use Rattle.text.specs.declared.networks.Block.{Block}
-use Rattle.text.specs.declared.networks.Block.TheVariants.{Net, NoNet}
+use Rattle.text.specs.Numbers.{number_at, quad_at, then_read}
+use Rattle.text.specs.Networks.{size_of, low_of, high_of, net_of, network_at}
+use Rattle.std.specs.Prelude.{Option, Some, None}
+use Rattle.text.specs.declared.networks.Net.{Net}
 use Rattle.text.proofs.Tests.{cond_cases}
 use Rattle.text.proofs.NumberLaws.{Sound, number_sound, quad_sound, number_small, closing_fits}
 
@@ -80,42 +78,22 @@ module _ (n a m : ℕ) (e : m ≡ size_of n) where
   pub size_some : 0 < m
   size_some = rw e (size_positive n)
 
-  pub around_is : (g : Bool) (i : ℕ) → Net (a - a % m) (a - a % m + (m - 1)) g i ≡ net_of n a g i
+  pub around_is : (g : Bool) → record { low = a - a % m; high = a - a % m + (m - 1); given = g } ≡ net_of n a g
   unfolding net_of low_of high_of
-  around_is g i = rw e
+  around_is g = rw e
 
 pub rest_below : (a m : ℕ) → a % m ≤ a
 rest_below a m = mod-le a m
 
--- ## the steps of `network`
-module _ (s : List ℕ) (at : ℕ) (r : Digits) (e : r ≡ quad_at s at) where
-  pub net_none : r ≡ NoNumber → NoNet ≡ network_at s at
-  unfolding network_at
-  net_none q = rw (← e, q)
-
-  module _ {a i : ℕ} (q : r ≡ Number a i) (t : Bool) (f : t ≡ is_at s i 0x2F) where
-    pub net_bare : t ≡ false → (x : Block) → x ≡ net_of 32 a false i → x ≡ network_at s at
-    unfolding network_at
-    net_bare u x w = rw (← e, q, ← f, u) w
-
-    module _ (u : t ≡ true) (r₂ : Digits) (e₂ : r₂ ≡ number_at 32 s (i + 1)) where
-      pub net_open : r₂ ≡ NoNumber → NoNet ≡ network_at s at
-      unfolding network_at
-      net_open v = rw (← e, q, ← f, u, ← e₂, v)
-
-      pub net_given : {n j : ℕ} → r₂ ≡ Number n j → (x : Block) → x ≡ net_of n a true j → x ≡ network_at s at
-      unfolding network_at
-      net_given v x w = rw (← e, q, ← f, u, ← e₂, v) w
-
-pub ruleset finding = (rules, size_is, size_some, last_fits, last_fits_wide, around_is, rest_below, number_small, closing_fits, net_none, net_bare, net_open, net_given)
+pub ruleset finding = (rules, size_is, size_some, last_fits, last_fits_wide, around_is, rest_below, number_small, closing_fits)
 
 -- ## what a network that is read is
 -- its first address is not above its last, both are addresses, and the place after it stands further on in the text
-abbrev pub SoundNet : List ℕ → ℕ → Block → Type 0
-SoundNet s at NoNet = Unit {0}
-SoundNet s at (Net low high given i) = (low ≤ high) × (high < 4294967296) × (at < i) × (i ≤ length s)
+abbrev pub SoundNet : List ℕ → ℕ → Option (Net × ℕ) → Type 0
+SoundNet s at None = Unit {0}
+SoundNet s at (Some (n, i)) = (n.low ≤ n.high) × (n.high < 4294967296) × (at < i) × (i ≤ length s)
 
-net_sound : (s : List ℕ) (at n a : ℕ) (given : Bool) (i : ℕ) → n ≤ 32 → a ≤ 0xFFFFFFFF → at < i → i ≤ length s → SoundNet s at (net_of n a given i)
+net_sound : (s : List ℕ) (at n a : ℕ) (given : Bool) (i : ℕ) → n ≤ 32 → a ≤ 0xFFFFFFFF → at < i → i ≤ length s → SoundNet s at (Some (net_of n a given, i))
 unfolding net_of
 net_sound s at n a given i h l k m =
     let p : low_of n a ≤ a = low_below n a in
@@ -123,15 +101,15 @@ net_sound s at n a given i h l k m =
     let r : high_of n a < 4294967296 = high_address n a h (omega arith) in
     (omega arith, r, k, m)
 
-then_net_lem : (max : ℕ) (s : List ℕ) (at j : ℕ) (r : Digits) (g : ℕ → ℕ → Block) → Sound max s j r → ((v i : ℕ) → v ≤ max → j < i → i ≤ length s → SoundNet s at (g v i)) → SoundNet s at (then_net r g)
-then_net_lem max s at j NoNumber g h f = tt
-then_net_lem max s at j (Number v i) g h f = f v i h.0 h.1 h.2
+then_net_sound : (max : ℕ) (s : List ℕ) (at j : ℕ) (r : Option (ℕ × ℕ)) (g : ℕ → ℕ → Option (Net × ℕ)) → Sound max s j r → ((v i : ℕ) → v ≤ max → j < i → i ≤ length s → SoundNet s at (g v i)) → SoundNet s at (then_read r g)
+then_net_sound max s at j None g h f = tt
+then_net_sound max s at j (Some (v, i)) g h f = f v i h.0 h.1 h.2
 
 pub network_sound : (s : List ℕ) (at : ℕ) → SoundNet s at (network_at s at)
 unfolding network_at
 network_sound s at =
-    then_net_lem 0xFFFFFFFF s at at (quad_at s at) _ (quad_sound s at)
+    then_net_sound 0xFFFFFFFF s at at (quad_at s at) _ (quad_sound s at)
     (λ a i ha l m. cond_cases (SoundNet s at) (is_at s i 0x2F)
-    (λ e. then_net_lem 32 s at (i + 1) (number_at 32 s (i + 1)) _ (number_sound 32 s (i + 1))
+    (λ e. then_net_sound 32 s at (i + 1) (number_at 32 s (i + 1)) _ (number_sound 32 s (i + 1))
     (λ n j hn k o. net_sound s at n a true j hn ha (omega arith) o))
     (λ e. net_sound s at 32 a false i (omega arith) ha l m))

@@ -11,11 +11,10 @@ use lib.Dec.{eqb, leb, ltb}
 use lib.ListN.{length, drop, drop_of_length-le, length-drop}
 use lib.Seq.{drop-cons}
 use borrow.Author.Rules.{rules}
-use borrow.Author.Tests.{eqb-true, leb-true, ltb-true, ltb-false, eq-eqb, ne_eqb, le-leb, lt-leb}
+use borrow.Author.Tests.{eqb-true, leb-true, ltb-true, ltb-false, le-leb, lt-leb}
 use Rattle.text.specs.Bytes.{byte_at, is_at, is_digit}
-use Rattle.text.specs.Numbers.{digits_from, number_at, then_digits, closed_by, closed_at, quad_at}
-use Rattle.text.specs.declared.numbers.Digits.{Digits}
-use Rattle.text.specs.declared.numbers.Digits.TheVariants.{Number, NoNumber}
+use Rattle.text.specs.Numbers.{digits_from, number_at, then_read, closed_by, closed_at, quad_at}
+use Rattle.std.specs.Prelude.{Option, Some, None}
 use Rattle.text.proofs.Tests.{by_test, cond_cases}
 use Rattle.text.proofs.ByteLaws.{inside, at_inside, between_low, digit_inside}
 
@@ -27,6 +26,9 @@ module _ (s : List ℕ) (at b : ℕ) (e : b ≡ byte_at s at) (l : length s < 2 
   pub digit_fits : (r : Bool) → r ≡ is_digit b → r ≡ true → Fits w64 (at + 1)
   digit_fits r p q = let m : at < length s = digit_inside s at (ap is_digit (sym e) ∙ sym p ∙ q) in omega arith
 
+pub digit_room : (s : List ℕ) (at b : ℕ) → b ≡ byte_at s at → (r : Bool) → r ≡ is_digit b → r ≡ true → at + 1 ≤ length s
+digit_room s at b e r p q = let m : at < length s = digit_inside s at (ap is_digit (sym e) ∙ sym p ∙ q) in omega arith
+
 pub closing_fits : (s : List ℕ) (at b : ℕ) → length s < 2 ^ 64 → (r : Bool) → r ≡ is_at s at b → r ≡ true → Fits w64 (at + 1)
 closing_fits s at b l r p q = let m : at < length s = at_inside s at b (sym p ∙ q) in omega arith
 
@@ -34,37 +36,18 @@ pub value_low : (b : ℕ) (r : Bool) → r ≡ is_digit b → r ≡ true → 0x3
 value_low b r p q = between_low 0x30 0x39 b (sym p ∙ q)
 
 -- ## a number
-module _ (max : ℕ) (s : List ℕ) (at b : ℕ) (e : b ≡ byte_at s at) where
-  module _ (z : b ≡ 0x30) (c : ℕ) (f : c ≡ byte_at s (at + 1)) (r : Bool) (p : r ≡ is_digit c) where
-    pub number_padded : r ≡ true → NoNumber ≡ number_at max s at
-    unfolding number_at
-    number_padded q = rw (← e, eq-eqb _ _ z, ← f, ← p, q)
-
-    pub number_zero : r ≡ false → Number 0 (at + 1) ≡ number_at max s at
-    unfolding number_at
-    number_zero q = rw (← e, eq-eqb _ _ z, ← f, ← p, q)
-
-  module _ (n : b ≡ 0x30 → ⊥) (r : Bool) (p : r ≡ is_digit b) where
-    pub number_none : r ≡ false → NoNumber ≡ number_at max s at
-    unfolding number_at
-    number_none q = rw (← e, ne_eqb _ _ n, ← p, q)
-
-    pub number_some : r ≡ true → (v : ℕ) → v ≡ b - 0x30 → number_at max s at ≡ digits_from max v (drop (at + 1) s) (at + 1)
-    unfolding number_at
-    number_some q v u = rw (← e, ne_eqb _ _ n, ← p, q, u)
-
 -- within a number
-module _ (max : ℕ) (s : List ℕ) (i v : ℕ) (w : Digits) (h : w ≡ digits_from max v (drop i s) i) where
-  pub digits_over : max < v → NoNumber ≡ w
+module _ (max : ℕ) (s : List ℕ) (i v : ℕ) (w : Option (ℕ × ℕ)) (h : w ≡ digits_from max v (drop i s) i) where
+  pub digits_over : max < v → None ≡ w
   unfolding digits_from
   digits_over l = go (drop i s) h
     where
-      go : (xs : List ℕ) → w ≡ digits_from max v xs i → NoNumber ≡ w
+      go : (xs : List ℕ) → w ≡ digits_from max v xs i → None ≡ w
       go [] q = sym (rw (digits_from, lt-leb v max l) at q)
       go (x ∷ xs) q = sym (rw (digits_from, lt-leb v max l) at q)
 
   module _ (m : v ≤ max) (c : ℕ) (e : c ≡ byte_at s i) (r : Bool) (p : r ≡ is_digit c) where
-    pub digits_end : r ≡ false → Number v i ≡ w
+    pub digits_end : r ≡ false → Some (v, i) ≡ w
     unfolding digits_from
     digits_end q =
         by_test (ltb i (length s))
@@ -82,54 +65,11 @@ module _ (max : ℕ) (s : List ℕ) (i v : ℕ) (w : Digits) (h : w ≡ digits_f
       pub digits_less : length s - (i + 1) < length s - i
       digits_less = let l : i < length s = digit_inside s i (ap is_digit (sym e) ∙ sym p ∙ q) in omega arith
 
--- ## a number and what closes it
-module _ (close : ℕ) (s : List ℕ) (r : Digits) where
-  pub closed_none : r ≡ NoNumber → NoNumber ≡ closed_by close s r
-  unfolding closed_by
-  closed_none q = rw q
-
-  module _ {v i : ℕ} (q : r ≡ Number v i) (t : Bool) (e : t ≡ is_at s i close) where
-    pub closed_is : t ≡ true → Number v (i + 1) ≡ closed_by close s r
-    unfolding closed_by
-    closed_is u = rw (q, ← e, u)
-
-    pub closed_not : t ≡ false → NoNumber ≡ closed_by close s r
-    unfolding closed_by
-    closed_not u = rw (q, ← e, u)
-
-pub closed_of : (close : ℕ) (s : List ℕ) (x y r : Digits) → x ≡ y → r ≡ closed_by close s x → r ≡ closed_by close s y
-closed_of close s x y r e q = rw (← e) q
-
--- ## a dotted quad
-module _ (s : List ℕ) (at : ℕ) (r : Digits) (e : r ≡ closed_at 255 0x2E s at) where
-  pub quad_first : r ≡ NoNumber → NoNumber ≡ quad_at s at
-  unfolding quad_at
-  quad_first q = rw (← e, q)
-
-  module _ {a i : ℕ} (q : r ≡ Number a i) (r₂ : Digits) (e₂ : r₂ ≡ closed_at 255 0x2E s i) where
-    pub quad_second : r₂ ≡ NoNumber → NoNumber ≡ quad_at s at
-    unfolding quad_at
-    quad_second u = rw (← e, q, ← e₂, u)
-
-    module _ {b j : ℕ} (q₂ : r₂ ≡ Number b j) (r₃ : Digits) (e₃ : r₃ ≡ closed_at 255 0x2E s j) where
-      pub quad_third : r₃ ≡ NoNumber → NoNumber ≡ quad_at s at
-      unfolding quad_at
-      quad_third u = rw (← e, q, ← e₂, q₂, ← e₃, u)
-
-      module _ {c k : ℕ} (q₃ : r₃ ≡ Number c k) (r₄ : Digits) (e₄ : r₄ ≡ number_at 255 s k) where
-        pub quad_fourth : r₄ ≡ NoNumber → NoNumber ≡ quad_at s at
-        unfolding quad_at
-        quad_fourth u = rw (← e, q, ← e₂, q₂, ← e₃, q₃, ← e₄, u)
-
-        pub quad_is : {d n : ℕ} → r₄ ≡ Number d n → (v : ℕ) → v ≡ ((a * 256 + b) * 256 + c) * 256 + d → Number v n ≡ quad_at s at
-        unfolding quad_at
-        quad_is u v w = rw (← e, q, ← e₂, q₂, ← e₃, q₃, ← e₄, u, w)
-
 -- ## bounds
 -- a value of at most max, and a place further on in the text
-abbrev pub Sound : ℕ → List ℕ → ℕ → Digits → Type 0
-Sound max s at NoNumber = Unit {0}
-Sound max s at (Number v n) = (v ≤ max) × (at < n) × (n ≤ length s)
+abbrev pub Sound : ℕ → List ℕ → ℕ → Option (ℕ × ℕ) → Type 0
+Sound max s at None = Unit {0}
+Sound max s at (Some (v, n)) = (v ≤ max) × (at < n) × (n ≤ length s)
 
 digits_sound : (max v : ℕ) (s xs : List ℕ) (at i : ℕ) → at < i → i + length xs ≤ length s → Sound max s at (digits_from max v xs i)
 unfolding digits_from
@@ -152,15 +92,15 @@ number_sound max s at =
     digits_sound max (byte_at s at - 0x30) s (drop (at + 1) s) at (at + 1) (omega arith) (omega (arith, length-drop (at + 1) s)))
     (λ q. tt))
 
-then_sound : (a b : ℕ) (s : List ℕ) (at : ℕ) (r : Digits) (g : ℕ → ℕ → Digits) → Sound a s at r → ((v i : ℕ) → v ≤ a → at < i → i ≤ length s → Sound b s at (g v i)) → Sound b s at (then_digits r g)
-then_sound a b s at NoNumber g h f = tt
-then_sound a b s at (Number v i) g h f = f v i h.0 h.1 h.2
+then_sound : (a b : ℕ) (s : List ℕ) (at : ℕ) (r : Option (ℕ × ℕ)) (g : ℕ → ℕ → Option (ℕ × ℕ)) → Sound a s at r → ((v i : ℕ) → v ≤ a → at < i → i ≤ length s → Sound b s at (g v i)) → Sound b s at (then_read r g)
+then_sound a b s at None g h f = tt
+then_sound a b s at (Some (v, i)) g h f = f v i h.0 h.1 h.2
 
-sound_down : (m : ℕ) (s : List ℕ) (i j : ℕ) (r : Digits) → i ≤ j → Sound m s j r → Sound m s i r
-sound_down m s i j NoNumber l h = tt
-sound_down m s i j (Number v n) l h = (h.0, omega arith, h.2)
+sound_down : (m : ℕ) (s : List ℕ) (i j : ℕ) (r : Option (ℕ × ℕ)) → i ≤ j → Sound m s j r → Sound m s i r
+sound_down m s i j None l h = tt
+sound_down m s i j (Some (v, n)) l h = (h.0, omega arith, h.2)
 
-pub closed_sound : (max close : ℕ) (s : List ℕ) (at : ℕ) (r : Digits) → Sound max s at r → Sound max s at (closed_by close s r)
+pub closed_sound : (max close : ℕ) (s : List ℕ) (at : ℕ) (r : Option (ℕ × ℕ)) → Sound max s at r → Sound max s at (closed_by close s r)
 unfolding closed_by
 closed_sound max close s at r h =
     then_sound max max s at r _ h
@@ -181,10 +121,10 @@ quad_sound s at =
     (λ d n hd l m. (omega arith, l, m)))))
 
 -- a part of a quad that is read is small
-pub part_small : (s : List ℕ) (at : ℕ) (r : Digits) → r ≡ closed_at 255 0x2E s at → {v n : ℕ} → r ≡ Number v n → v ≤ 255
+pub part_small : (s : List ℕ) (at : ℕ) (r : Option (ℕ × ℕ)) → r ≡ closed_at 255 0x2E s at → {v n : ℕ} → r ≡ Some (v, n) → v ≤ 255
 part_small s at r e q = (subst (Sound 255 s at) (sym e ∙ q) (part_sound s at at (omega arith))).0
 
-pub number_small : (max : ℕ) (s : List ℕ) (at : ℕ) (r : Digits) → r ≡ number_at max s at → {v n : ℕ} → r ≡ Number v n → v ≤ max
+pub number_small : (max : ℕ) (s : List ℕ) (at : ℕ) (r : Option (ℕ × ℕ)) → r ≡ number_at max s at → {v n : ℕ} → r ≡ Some (v, n) → v ≤ max
 number_small max s at r e q = (subst (Sound max s at) (sym e ∙ q) (number_sound max s at)).0
 
-pub ruleset reading = (rules, at_fits, digit_fits, closing_fits, value_low, number_padded, number_zero, number_none, number_some, digits_over, digits_end, digits_more, digits_less, closed_none, closed_is, closed_not, closed_of, quad_first, quad_second, quad_third, quad_fourth, quad_is, part_small, number_small)
+pub ruleset reading = (rules, at_fits, digit_fits, digit_room, closing_fits, value_low, digits_over, digits_end, digits_more, digits_less, part_small, number_small)

@@ -11,10 +11,10 @@ use lib.ListN.{length, drop, length-append, length-drop}
 use lib.Seq.{drop-cons, get_or-drop}
 use borrow.Author.Tests.{eq-eqb, ne_eqb, eqb-true, eqb-false, ltb-true, ltb-false, le-leb}
 use Rattle.text.specs.Bytes.{byte_at, is_at, between, is_digit}
-use Rattle.text.specs.Numbers.{digits_from, number_at, then_digits, closed_by, closed_at, quad_at, closed_quad_at}
+use Rattle.text.specs.Numbers.{digits_from, number_at, then_read, closed_by, closed_at, quad_at, closed_quad_at}
 use Rattle.text.specs.Written.{decimal_by, decimal, quad}
-use Rattle.text.specs.declared.numbers.Digits.{Digits}
-use Rattle.text.specs.declared.numbers.Digits.TheVariants.{Number, NoNumber}
+use Rattle.std.specs.Prelude.{Option, Some, None}
+use Rattle.std.proofs.lemmas.Option.{some_pair_parts}
 use Rattle.text.proofs.Tests.{by_test}
 use Rattle.text.proofs.ByteLaws.{inside, between_low, between_high, between_is, digit_inside, at_inside, at_is, at_from}
 use Rattle.text.proofs.NumberLaws.{number_small, part_small}
@@ -41,15 +41,15 @@ byte_rest : (s : List ℕ) (n : ℕ) (rest : List ℕ) → drop n s ≡ rest →
 byte_rest s n rest e = sym (ap (λ (t : List ℕ). byte_at t 0) (sym e) ∙ (get_or-drop n s 0 0 ∙ ap (byte_at s) (add-zero n)))
 
 -- a number's reading: the place after it, and what stands there
-pub record Reads (r : Digits) (v : ℕ) (s rest : List ℕ) : Type 0 where
+pub record Reads (r : Option (ℕ × ℕ)) (v : ℕ) (s rest : List ℕ) : Type 0 where
   pub n : ℕ
-  pub is : r ≡ Number v n
+  pub is : r ≡ Some (v, n)
   pub after : drop n s ≡ rest
 
 -- taking a reading apart
-parted : (r : Digits) (g : ℕ → ℕ → Digits) {v n : ℕ} → Number v n ≡ then_digits r g → record { u : ℕ; i : ℕ; is : Number u i ≡ r; go : Number v n ≡ g u i }
-parted NoNumber g q = absurd (let w : ◌≡◌ {A = ℕ} 0 1 = cc in omega arith)
-parted (Number u i) g q = record { u = u; i = i; is = refl; go = q }
+parted : (r : Option (ℕ × ℕ)) (g : ℕ → ℕ → Option (ℕ × ℕ)) {v n : ℕ} → Some (v, n) ≡ then_read r g → record { u : ℕ; i : ℕ; is : Some (u, i) ≡ r; go : Some (v, n) ≡ g u i }
+parted None g q = absurd (let w : ◌≡◌ {A = ℕ} 0 1 = cc in omega arith)
+parted (Some (u, i)) g q = record { u = u; i = i; is = refl; go = q }
 
 -- ## what is read is written so
 digit_more : (a x : ℕ) → 0 < a → is_digit x ≡ true → decimal (a * 10 + (x - 0x30)) ≡ decimal a ++ (x ∷ [])
@@ -64,35 +64,34 @@ digit_more a x h d =
 abbrev Spelt : List ℕ → List ℕ → ℕ → ℕ → Type 0
 Spelt s xs v n = (xs ≡ decimal v ++ drop n s) × (is_digit (byte_at s n) ≡ false)
 
-spelt_end : (s xs : List ℕ) (a i v n : ℕ) → drop i s ≡ xs → is_digit (byte_at xs 0) ≡ false → Number v n ≡ Number a i → Spelt s (decimal a ++ xs) v n
+spelt_end : (s xs : List ℕ) (a i v n : ℕ) → drop i s ≡ xs → is_digit (byte_at xs 0) ≡ false → ◌≡◌ {A = Option (ℕ × ℕ)} (Some (v, n)) (Some (a, i)) → Spelt s (decimal a ++ xs) v n
 spelt_end s xs a i v n e d q =
-    let u : v ≡ a = cc in
-    let w : n ≡ i = cc in
-    rw (u, w) (ap {B = List ℕ} (λ t. decimal a ++ t) (sym e), ap is_digit (byte_rest s i xs e) ∙ d)
+    let p = some_pair_parts v a n i q in
+    rw (p.0, p.1) (ap {B = List ℕ} (λ t. decimal a ++ t) (sym e), ap is_digit (byte_rest s i xs e) ∙ d)
 
-digits_spelt : (max : ℕ) (s xs : List ℕ) (a i v n : ℕ) → 0 < a → drop i s ≡ xs → Number v n ≡ digits_from max a xs i → Spelt s (decimal a ++ xs) v n
+digits_spelt : (max : ℕ) (s xs : List ℕ) (a i v n : ℕ) → 0 < a → drop i s ≡ xs → Some (v, n) ≡ digits_from max a xs i → Spelt s (decimal a ++ xs) v n
 unfolding digits_from between
 digits_spelt max s [] a i v n h e q =
     by_test (leb a max)
     (λ l. spelt_end s [] a i v n e refl (rw l at q))
-    (λ l. absurd (let z : Number v n ≡ NoNumber = rw l at q in let w : ◌≡◌ {A = ℕ} 0 1 = cc in omega arith))
+    (λ l. absurd (let z : Some (v, n) ≡ None = rw l at q in let w : ◌≡◌ {A = ℕ} 0 1 = cc in omega arith))
 digits_spelt max s (x ∷ xs) a i v n h e q =
     by_test (leb a max)
     (λ l. by_test (is_digit x)
     (λ d. let r = digits_spelt max s xs (a * 10 + (x - 0x30)) (i + 1) v n (omega arith) (drop_head s i x xs e).1 (rw (l, d) at q) in
     (sym (append_assoc (decimal a) (x ∷ []) xs) ∙ (ap {B = List ℕ} (λ t. t ++ xs) (sym (digit_more a x h d)) ∙ r.0), r.1))
     (λ d. spelt_end s (x ∷ xs) a i v n e d (rw (l, d) at q)))
-    (λ l. absurd (let z : Number v n ≡ NoNumber = rw l at q in let w : ◌≡◌ {A = ℕ} 0 1 = cc in omega arith))
+    (λ l. absurd (let z : Some (v, n) ≡ None = rw l at q in let w : ◌≡◌ {A = ℕ} 0 1 = cc in omega arith))
 
-pub number_spelt : (max : ℕ) (s : List ℕ) (at v n : ℕ) → Number v n ≡ number_at max s at → (drop at s ≡ decimal v ++ drop n s) × (is_digit (byte_at s n) ≡ false)
+pub number_spelt : (max : ℕ) (s : List ℕ) (at v n : ℕ) → Some (v, n) ≡ number_at max s at → (drop at s ≡ decimal v ++ drop n s) × (is_digit (byte_at s n) ≡ false)
 unfolding number_at
 number_spelt max s at v n q =
     by_test (eqb (byte_at s at) 0x30)
     (λ e. let b : byte_at s at ≡ 0x30 = eqb-true _ _ e in
     let f : drop at s ≡ decimal 0 ++ drop (at + 1) s = drop-cons s at 0 (inside s at (omega arith)) ∙ rw (b, add-one at, decimal_one 0 (omega arith)) in
     by_test (is_digit (byte_at s (at + 1)))
-    (λ d. absurd (let z : Number v n ≡ NoNumber = rw (e, d) at q in let w : ◌≡◌ {A = ℕ} 0 1 = cc in omega arith))
-    (λ d. let z : Number v n ≡ Number 0 (at + 1) = rw (e, d) at q in let u : v ≡ 0 = cc in let w : n ≡ at + 1 = cc in rw (u, w) (f, d)))
+    (λ d. absurd (let z : Some (v, n) ≡ None = rw (e, d) at q in let w : ◌≡◌ {A = ℕ} 0 1 = cc in omega arith))
+    (λ d. let p = some_pair_parts v 0 n (at + 1) (rw (e, d) at q) in rw (p.0, p.1) (f, d)))
     (λ e. let f : byte_at s at ≡ 0x30 → ⊥ = eqb-false (byte_at s at) 0x30 e in
     by_test (is_digit (byte_at s at))
     (λ d. let l : 0x30 ≤ byte_at s at = between_low 0x30 0x39 (byte_at s at) d in
@@ -101,22 +100,22 @@ number_spelt max s at v n q =
     let st : decimal (byte_at s at - 0x30) ≡ byte_at s at ∷ [] = decimal_one (byte_at s at - 0x30) (omega arith) ∙ ap {B = List ℕ} (λ k. k ∷ []) y in
     let r = digits_spelt max s (drop (at + 1) s) (byte_at s at - 0x30) (at + 1) v n (omega arith) refl (rw (e, d) at q) in
     (drop-cons s at 0 (digit_inside s at d) ∙ (ap {B = List ℕ} (λ t. t ++ drop (suc at) s) (sym st) ∙ (rw (← add-one at) r.0)), r.1))
-    (λ d. absurd (let z : Number v n ≡ NoNumber = rw (e, d) at q in let w : ◌≡◌ {A = ℕ} 0 1 = cc in omega arith)))
+    (λ d. absurd (let z : Some (v, n) ≡ None = rw (e, d) at q in let w : ◌≡◌ {A = ℕ} 0 1 = cc in omega arith)))
 
 -- what closes it
-closing_spelt : (c : ℕ) (s : List ℕ) (r : Digits) (v n : ℕ) → Number v n ≡ closed_by c s r → record { i : ℕ; is : Number v i ≡ r; here : drop i s ≡ c ∷ drop n s }
+closing_spelt : (c : ℕ) (s : List ℕ) (r : Option (ℕ × ℕ)) (v n : ℕ) → Some (v, n) ≡ closed_by c s r → record { i : ℕ; is : Some (v, i) ≡ r; here : drop i s ≡ c ∷ drop n s }
 unfolding closed_by
 closing_spelt c s r v n q =
     let p = parted r _ q in
     by_test (is_at s p.i c)
-    (λ e. let k : Number v n ≡ Number p.u (p.i + 1) = rw e at p.go in
-    let u : v ≡ p.u = cc in
-    let w : n ≡ p.i + 1 = cc in
+    (λ e. let k = some_pair_parts v p.u n (p.i + 1) (rw e at p.go) in
+    let u : v ≡ p.u = k.0 in
+    let w : n ≡ p.i + 1 = k.1 in
     let f : drop p.i s ≡ c ∷ drop (p.i + 1) s = drop-cons s p.i 0 (at_inside s p.i c e) ∙ rw (at_is s p.i c e, add-one p.i) in
-    record { i = p.i; is = ap (λ k. Number k p.i) u ∙ p.is; here = f ∙ ap {B = List ℕ} (λ k. c ∷ drop k s) (sym w) })
-    (λ e. absurd (let k : Number v n ≡ NoNumber = rw e at p.go in let w : ◌≡◌ {A = ℕ} 0 1 = cc in omega arith))
+    record { i = p.i; is = ap (λ k. Some (k, p.i)) u ∙ p.is; here = f ∙ ap {B = List ℕ} (λ k. c ∷ drop k s) (sym w) })
+    (λ e. absurd (let k : Some (v, n) ≡ None = rw e at p.go in let w : ◌≡◌ {A = ℕ} 0 1 = cc in omega arith))
 
-pub closed_spelt : (max c : ℕ) (s : List ℕ) (at v n : ℕ) → Number v n ≡ closed_at max c s at → drop at s ≡ decimal v ++ (c ∷ drop n s)
+pub closed_spelt : (max c : ℕ) (s : List ℕ) (at v n : ℕ) → Some (v, n) ≡ closed_at max c s at → drop at s ≡ decimal v ++ (c ∷ drop n s)
 closed_spelt max c s at v n q =
     let p = closing_spelt c s (number_at max s at) v n q in
     (number_spelt max s at v p.i p.is).0 ∙ ap {B = List ℕ} (λ t. decimal v ++ t) p.here
@@ -128,7 +127,7 @@ quad_of : (s : List ℕ) (v a b c d at i j k n : ℕ) → v / 16777216 ≡ a →
 unfolding quad
 quad_of s v a b c d at i j k n p q r t e f g h = rw (p, q, r, t) (e ∙ rw (f, g, h) (simp append_assoc))
 
-pub quad_spelt : (s : List ℕ) (at v n : ℕ) → Number v n ≡ quad_at s at → (drop at s ≡ quad v ++ drop n s) × (is_digit (byte_at s n) ≡ false)
+pub quad_spelt : (s : List ℕ) (at v n : ℕ) → Some (v, n) ≡ quad_at s at → (drop at s ≡ quad v ++ drop n s) × (is_digit (byte_at s n) ≡ false)
 unfolding quad_at
 quad_spelt s at v n q =
     let r₁ = parted (closed_at 255 0x2E s at) _ q in
@@ -139,16 +138,16 @@ quad_spelt s at v n q =
     let b : r₂.u ≤ 255 = part_small s r₁.i _ refl (sym r₂.is) in
     let c : r₃.u ≤ 255 = part_small s r₂.i _ refl (sym r₃.is) in
     let d : r₄.u ≤ 255 = number_small 255 s r₃.i _ refl (sym r₄.is) in
-    let k : Number v n ≡ Number (((r₁.u * 256 + r₂.u) * 256 + r₃.u) * 256 + r₄.u) r₄.i = r₄.go in
-    let u : v ≡ ((r₁.u * 256 + r₂.u) * 256 + r₃.u) * 256 + r₄.u = cc in
-    let w : n ≡ r₄.i = cc in
+    let k = some_pair_parts v (((r₁.u * 256 + r₂.u) * 256 + r₃.u) * 256 + r₄.u) n r₄.i r₄.go in
+    let u : v ≡ ((r₁.u * 256 + r₂.u) * 256 + r₃.u) * 256 + r₄.u = k.0 in
+    let w : n ≡ r₄.i = k.1 in
     let z = number_spelt 255 s r₃.i r₄.u r₄.i r₄.is in
     let x : drop at s ≡ quad v ++ drop r₄.i s =
     quad_of s v r₁.u r₂.u r₃.u r₄.u at r₁.i r₂.i r₃.i r₄.i (omega arith) (omega arith) (omega arith) (omega arith)
     (closed_spelt 255 0x2E s at r₁.u r₁.i r₁.is) (closed_spelt 255 0x2E s r₁.i r₂.u r₂.i r₂.is) (closed_spelt 255 0x2E s r₂.i r₃.u r₃.i r₃.is) z.0 in
     (x ∙ ap {B = List ℕ} (λ k. quad v ++ drop k s) (sym w), ap {B = Bool} (λ k. is_digit (byte_at s k)) w ∙ z.1)
 
-pub closed_quad_spelt : (c : ℕ) (s : List ℕ) (at v n : ℕ) → Number v n ≡ closed_quad_at c s at → drop at s ≡ quad v ++ (c ∷ drop n s)
+pub closed_quad_spelt : (c : ℕ) (s : List ℕ) (at v n : ℕ) → Some (v, n) ≡ closed_quad_at c s at → drop at s ≡ quad v ++ (c ∷ drop n s)
 closed_quad_spelt c s at v n q =
     let p = closing_spelt c s (quad_at s at) v n q in
     (quad_spelt s at v p.i p.is).0 ∙ ap {B = List ℕ} (λ t. quad v ++ t) p.here
@@ -184,7 +183,7 @@ first_of (suc f) v h k =
           rw (append_assoc r.ys ((0x30 + v % 10) ∷ []) zs, r.run max ((0x30 + v % 10) ∷ zs) i (omega arith), digits_from, le-leb (v / 10) max (omega arith), between_is 0x30 0x39 (0x30 + v % 10) (omega arith) (omega arith), p, u);
     }))
 
-digits_end : (max v : ℕ) (rest : List ℕ) (i : ℕ) → is_digit (byte_at rest 0) ≡ false → v ≤ max → digits_from max v rest i ≡ Number v i
+digits_end : (max v : ℕ) (rest : List ℕ) (i : ℕ) → is_digit (byte_at rest 0) ≡ false → v ≤ max → digits_from max v rest i ≡ Some (v, i)
 unfolding digits_from
 digits_end max v [] i d m = rw (le-leb v max m)
 digits_end max v (c ∷ rest) i d m = rw (le-leb v max m, d)
@@ -193,7 +192,7 @@ pub number_read : (max : ℕ) (s : List ℕ) (at v : ℕ) (rest : List ℕ) → 
 unfolding number_at
 number_read max s at v rest m d e = record { n = at + length (decimal v); is = place; after = drop_past s at (decimal v) rest e }
   where
-    place : number_at max s at ≡ Number v (at + length (decimal v))
+    place : number_at max s at ≡ Some (v, at + length (decimal v))
     place =
         by_test (eqb v 0)
         (λ z. let q : v ≡ 0 = eqb-true v 0 z in
@@ -206,7 +205,7 @@ number_read max s at v rest m d e = record { n = at + length (decimal v); is = p
         let u : at + length (decimal v) ≡ at + 1 + length r.ys = ap {B = ℕ} (λ t. at + length t) r.is ∙ omega arith in
         rw (h.0, ne_eqb r.b 0x30 (omega arith), between_is 0x30 0x39 r.b (omega arith) r.high, h.1, r.run max rest (at + 1) m, digits_end max v rest (at + 1 + length r.ys) d m, u))
 
-pub closing_read : (c : ℕ) (s : List ℕ) (r : Digits) (v : ℕ) (rest : List ℕ) → Reads r v s (c ∷ rest) → Reads (closed_by c s r) v s rest
+pub closing_read : (c : ℕ) (s : List ℕ) (r : Option (ℕ × ℕ)) (v : ℕ) (rest : List ℕ) → Reads r v s (c ∷ rest) → Reads (closed_by c s r) v s rest
 unfolding closed_by
 closing_read c s r v rest a =
     let h = drop_head s a.n c rest a.after in

@@ -2,11 +2,9 @@
 -- zeros in front; without means /32. Host bits are cleared").
 use Rattle.std.specs.Prelude.{ℕ, ◌+◌, ◌-◌, ◌%◌, ◌^◌, List, Bool, true, false, cond}
 use Rattle.text.specs.Bytes.{is_at}
-use Rattle.text.specs.Numbers.{number_at, quad_at}
-use Rattle.text.specs.declared.numbers.Digits.{Digits}
-use Rattle.text.specs.declared.numbers.Digits.TheVariants.{Number, NoNumber}
-use Rattle.text.specs.declared.networks.Block.{Block}
-use Rattle.text.specs.declared.networks.Block.TheVariants.{Net, NoNet}
+use Rattle.text.specs.Numbers.{number_at, quad_at, then_read}
+use Rattle.std.specs.Prelude.{Option, Some}
+use Rattle.text.specs.declared.networks.Net.{Net}
 
 -- how many addresses a network of n bits has
 unfoldable pub size_of : ℕ → ℕ
@@ -19,17 +17,12 @@ low_of n a = a - a % size_of n
 unfoldable pub high_of : ℕ → ℕ → ℕ
 high_of n a = low_of n a + (size_of n - 1)
 
--- the network of n bits around a, whether n was given, and the place after it
-unfoldable pub net_of : ℕ → ℕ → Bool → ℕ → Block
-net_of n a given i = Net (low_of n a) (high_of n a) given i
-
--- what is read from a number and the place after it
-abbrev pub then_net : Digits → (ℕ → ℕ → Block) → Block
-then_net NoNumber g = NoNet
-then_net (Number v i) g = g v i
+-- the network of n bits around a, and whether n was given
+unfoldable pub net_of : ℕ → ℕ → Bool → Net
+net_of n a given = record { low = low_of n a; high = high_of n a; given = given }
 
 -- a quad, and after `/` the length
-unfoldable pub network_at : List ℕ → ℕ → Block
+unfoldable pub network_at : List ℕ → ℕ → Option (Net × ℕ)
 network_at s at =
-    then_net (quad_at s at) (λ a i.
-    cond (is_at s i 0x2F) (then_net (number_at 32 s (i + 1)) (λ n j. net_of n a true j)) (net_of 32 a false i))
+    then_read (quad_at s at) (λ a i.
+    cond (is_at s i 0x2F) (then_read (number_at 32 s (i + 1)) (λ n j. Some (net_of n a true, j))) (Some (net_of 32 a false, i)))

@@ -1,15 +1,17 @@
 // IPv4 networks, read at a place of a text.
+#![tactic(auto, using(crate::proofs::NetworkLaws::finding), unfolding(crate::specs::Networks::network_at))]
+
 ghost use Rattle.std.specs.Prelude.{◌≡◌, ◌≤◌};
 ghost use Rattle.text.specs.Networks.{size_of, net_of, network_at};
 
-use crate::numbers::Digits;
 use crate::{bytes, numbers};
 
-// The first and the last address, whether a length was given, and the place after.
+// The first and the last address, and whether a length was given.
 #[derive(Clone, Copy)]
-pub enum Block {
-    Net(u32, u32, bool, usize),
-    NoNet,
+pub struct Net {
+    pub low: u32,
+    pub high: u32,
+    pub given: bool,
 }
 
 // How many addresses a network has: too many for 32 bits where the length is 0.
@@ -22,28 +24,28 @@ fn size(length: u32) -> u64
 }
 
 // The network of `length` bits around an address.
-fn around(address: u32, length: u32, given: bool, after: usize) -> Block
+fn around(address: u32, length: u32, given: bool) -> Net
     requires { length ≤ 32 }
-    ensures { result ≡ net_of length address given after }
+    ensures { result ≡ net_of length address given }
 {
     let a = address as u64;
     let n = size(length);
     let low = a - a % n;
-    Block::Net(low as u32, (low + (n - 1)) as u32, given, after)
+    Net {
+        low: low as u32,
+        high: (low + (n - 1)) as u32,
+        given,
+    }
 }
 
-// A dotted quad with or without a length. What may follow it is the caller's to test.
-pub fn network(s: &[u8], at: usize) -> Block
+// A dotted quad with or without a length, and the place after it. What may follow is the caller's to test.
+pub fn network(s: &[u8], at: usize) -> Option<(Net, usize)>
     ensures { result ≡ network_at s.now at }
 {
-    let Digits::Number(a, i) = numbers::quad(s, at) else {
-        return Block::NoNet;
-    };
+    let (a, i) = numbers::quad(s, at)?;
     if bytes::is_at(s, i, b'/') {
-        let Digits::Number(n, j) = numbers::number(s, i + 1, 32) else {
-            return Block::NoNet;
-        };
-        return around(a, n, true, j);
+        let (n, j) = numbers::number(s, i + 1, 32)?;
+        return Some((around(a, n, true), j));
     }
-    around(a, 32, false, i)
+    Some((around(a, 32, false), i))
 }

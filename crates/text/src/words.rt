@@ -1,4 +1,6 @@
 // Fixed byte strings, compared with parts of a lent text.
+#![tactic(auto, using(crate::proofs::WordLaws::comparing))]
+
 ghost use Rattle.std.specs.Prelude.{◌≡◌};
 ghost use Rattle.text.specs.Words.{has_at, same_bytes};
 
@@ -7,30 +9,14 @@ pub fn begins(s: &[u8], at: usize, word: &[u8]) -> bool
     ensures { result ≡ has_at s.now at word.now }
 {
     if s.len() < at {
-        return word.len() == 0;
+        return word.is_empty();
     }
-    if s.len() - at < word.len() {
-        return false;
-    }
-    for i in 0..word.len() {
-        if s[at + i] != word[i] {
-            return false;
-        }
-    }
-    true
+    s[at..].starts_with(word)
 }
 
 // Whether two texts are the same, byte for byte.
 pub fn same(a: &[u8], b: &[u8]) -> bool
     ensures { result ≡ same_bytes a.now b.now }
 {
-    if a.len() != b.len() {
-        return false;
-    }
-    for i in 0..a.len() {
-        if a[i] != b[i] {
-            return false;
-        }
-    }
-    true
+    a == b
 }

@@ -1,6 +1,9 @@
-// Bytes, decimal numbers and dotted quads, written at a place of a lent buffer; and buffers cleared.
-// Each writer answers the place after what it wrote.
-ghost use Rattle.std.specs.Prelude.{◌≡◌, [], ◌∷◌, ◌++◌, ◌+◌, ◌/◌, ◌%◌, ◌≤◌, ◌<◌, length, replicate};
+// Bytes, decimal numbers and dotted quads, written at a place of a lent buffer.
+// Each writer answers the place after what it wrote. Buffer and place are no struct: each contract would name both fields, before and
+// after, for what `Put` says in four words.
+#![tactic(auto, using(crate::proofs::WrittenLaws::writing))]
+
+ghost use Rattle.std.specs.Prelude.{[], ◌∷◌, ◌++◌, ◌+◌, ◌/◌, ◌%◌, ◌≤◌, ◌<◌, length};
 ghost use Rattle.text.specs.Written.{decimal, quad, Put};
 
 pub fn put_byte(buf: &mut [u8], at: usize, b: u8) -> usize
@@ -83,21 +86,4 @@ pub fn put_quad(buf: &mut [u8], at: usize, a: u32) -> usize
     let q = put_dotted(buf, p, a / 65536 % 256);
     let r = put_dotted(buf, q, a / 256 % 256);
     put_small(buf, r, a % 256)
-}
-
-// Zeros in every place.
-pub fn clear_bytes(buf: &mut [u8])
-    ensures { buf.new ≡ replicate (length buf.old) 0 }
-{
-    for i in 0..buf.len() {
-        buf[i] = 0;
-    }
-}
-
-pub fn clear_longs(longs: &mut [u64])
-    ensures { longs.new ≡ replicate (length longs.old) 0 }
-{
-    for i in 0..longs.len() {
-        longs[i] = 0;
-    }
 }

@@ -1,11 +1,10 @@
 -- Number 6 of document 01: no object has two members of one name, compared after decoding, and no string, name or value, a
 -- surrogate escape without its partner.
-use Rattle.std.specs.Prelude.{ℕ, List, [], ◌∷◌, Bool, true, not, cond, ◌&&◌, ltb}
+use Rattle.jsontext.specs.declared.Bad.{Bad}
+use Rattle.std.specs.Prelude.{ℕ, List, [], ◌∷◌, Bool, true, not, cond, ◌&&◌, ltb, Result, Ok, Err}
 use Rattle.text.specs.Words.{same_bytes}
-use Rattle.jsontext.specs.declared.Read.{Read}
-use Rattle.jsontext.specs.declared.Read.TheVariants.{End, Bad}
-use Rattle.values.specs.declared.Verdict.{Verdict}
-use Rattle.values.specs.declared.Verdict.TheVariants.{Clean, Unclean, Broken}
+use Rattle.values.specs.declared.Fault.{Fault}
+use Rattle.values.specs.declared.Fault.TheVariants.{Broken, Unclean}
 use Rattle.values.specs.Tree.{Json, null, bool, integer, real, string, array, object, Elements, no_more, element, Members, nothing, member}
 
 -- every number is a byte
@@ -37,6 +36,6 @@ unfoldable mutual
   clean_members (member n j ms) = (all_bytes n && absent n ms) && (clean j && clean_members ms)
 
 -- numbers 5 and 6 of a text: 5 is judged first
-abbrev pub verdict_of : Read → Bool → Verdict
-verdict_of (End e) c = cond c Clean Unclean
-verdict_of (Bad p) c = Broken p
+abbrev pub verdict_of : Result ℕ Bad → Bool → Result (Unit {0}) Fault
+verdict_of (Ok e) c = cond c (Ok tt) (Err Unclean)
+verdict_of (Err b) c = Err (Broken b.at)

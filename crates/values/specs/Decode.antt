@@ -1,14 +1,11 @@
 -- What a string of a text stands for: its bytes after escapes are decoded (RFC 8259, 7). Raw UTF-8 stands as it is, byte for byte.
 -- A surrogate escape without its partner stands as its own number, which is above 0xFF and so no byte.
-use Rattle.std.specs.Prelude.{ℕ, zero, suc, ◌+◌, ◌-◌, ◌*◌, ◌/◌, ◌%◌, ◌^◌, ◌≤◌, ◌<◌, ◌≡◌, List, [], ◌∷◌, ◌++◌, Bool, true, false, cond, ◌&&◌, ◌||◌, length, take, ltb}
+use Rattle.jsontext.specs.declared.Bad.{Bad}
+use Rattle.std.specs.Prelude.{ℕ, zero, suc, ◌+◌, ◌-◌, ◌*◌, ◌/◌, ◌%◌, ◌^◌, ◌≤◌, ◌<◌, ◌≡◌, List, [], ◌∷◌, ◌++◌, Bool, cond, ◌&&◌, ◌||◌, length, take, ltb, eqb, Option, None, Some, Result, Ok, Err, is_ok}
 use Rattle.text.specs.Bytes.{byte_at, between, is_digit}
-use Rattle.jsontext.specs.declared.Read.{Read}
-use Rattle.jsontext.specs.declared.Read.TheVariants.{End, Bad}
 use Rattle.jsontext.specs.Reading.{is, is_hex, is_escape, times_at}
 use Rattle.values.specs.declared.Piece.{Piece}
 use Rattle.values.specs.declared.Piece.TheVariants.{Stop, One, Two, Three, Four}
-use Rattle.values.specs.declared.Head.{Head}
-use Rattle.values.specs.declared.Head.TheVariants.{Nil, Is}
 
 -- the number that a digit of base 16 stands for
 unfoldable pub digit_of : ℕ → ℕ
@@ -43,14 +40,9 @@ is_low u = between 0xDC00 0xDFFF u
 unfoldable pub pair_of : ℕ → ℕ → ℕ
 pair_of u v = 0x10000 + (u - 0xD800) * 1024 + (v - 0xDC00)
 
--- did a reader end?
-abbrev pub ended : Read → Bool
-ended (End e) = true
-ended (Bad p) = false
-
 -- the digits of the second of a pair stand here
 unfoldable pub low_at : List ℕ → ℕ → Bool
-low_at s i = ended (times_at is_hex 4 s i) && is_low (unit_at s i)
+low_at s i = is_ok (times_at is_hex 4 s i) && is_low (unit_at s i)
 
 -- an escape by number stands here, of the second of a pair
 unfoldable pub partner_at : List ℕ → ℕ → Bool
@@ -63,9 +55,9 @@ escaped_at u s i =
     (cond (is_low u) (One u i) (utf8 u i))
 
 -- the character of an escape by number, whose digits begin at i
-abbrev pub after_digits : Read → (ℕ → Piece) → Piece
-after_digits (End e) g = g e
-after_digits (Bad p) g = Stop
+abbrev pub after_digits : Result ℕ Bad → (ℕ → Piece) → Piece
+after_digits (Ok e) g = g e
+after_digits (Err b) g = Stop
 
 unfoldable pub unicode_at : List ℕ → ℕ → Piece
 unicode_at s i = after_digits (times_at is_hex 4 s i) (λ e. escaped_at (unit_at s i) s e)
@@ -83,6 +75,10 @@ piece_at s i =
 -- a byte of a string that stands for itself
 unfoldable pub is_raw : ℕ → Bool
 is_raw b = between 0x20 0x21 b || (between 0x23 0x5B b || between 0x5D 0xFF b)
+
+-- two bytes that are one, which stands for itself
+abbrev pub raw_in_both : ℕ × ℕ → Bool
+raw_in_both p = is_raw p.0 && eqb p.0 p.1
 
 -- a character's bytes, then what stands at the place after it
 abbrev pub before : Piece → (ℕ → List ℕ) → List ℕ
@@ -102,12 +98,12 @@ unfoldable pub bytes_at : List ℕ → ℕ → List ℕ
 bytes_at s i = bytes_from (suc (length s)) s i
 
 -- the first byte of what is left of a string, and what is left after it
-abbrev pub first_of : Piece → Head
-first_of Stop = Nil
-first_of (One a n) = Is a
-first_of (Two a b n) = Is a
-first_of (Three a b c n) = Is a
-first_of (Four a b c d n) = Is a
+abbrev pub first_of : Piece → Option ℕ
+first_of Stop = None
+first_of (One a n) = Some a
+first_of (Two a b n) = Some a
+first_of (Three a b c n) = Some a
+first_of (Four a b c d n) = Some a
 
 abbrev pub rest_of : List ℕ → Piece → Piece
 rest_of s Stop = Stop

@@ -1,19 +1,14 @@
 -- The tree that a text stands for. It is total: what is not JSON has a tree too, of which nothing is said.
-use Rattle.std.specs.Prelude.{ℕ, zero, suc, ◌+◌, ◌-◌, ◌*◌, List, [], ◌∷◌, Bool, true, false, cond, length, drop, take, ltb, eqb}
+use Rattle.jsontext.specs.declared.Bad.{Bad}
+use Rattle.std.specs.Prelude.{ℕ, zero, suc, ◌+◌, ◌-◌, ◌*◌, List, [], ◌∷◌, Bool, true, false, cond, not, ◌||◌, is_ok, length, drop, take, ltb, eqb, Option, Some, None, option_map, Result, Ok, Err}
 use Rattle.text.specs.Bytes.{byte_at, is_digit}
 use Rattle.text.specs.Words.{same_bytes}
-use Rattle.jsontext.specs.declared.Read.{Read}
-use Rattle.jsontext.specs.declared.Read.TheVariants.{End, Bad}
 use Rattle.jsontext.specs.declared.Next.{Next}
-use Rattle.jsontext.specs.declared.Next.TheVariants.{Done, More, Wrong}
+use Rattle.jsontext.specs.declared.Next.TheVariants.{Done, More}
 use Rattle.jsontext.specs.declared.Start.{Start}
 use Rattle.jsontext.specs.declared.Start.TheVariants.{Array, Object, Text, True, False, Null, Number, Nothing}
 use Rattle.jsontext.specs.Reading.{is_space, span_at, token_at, number_at, key_at, start_of, element_at, member_at, value_at}
 use Rattle.values.specs.Decode.{bytes_at}
-use Rattle.values.specs.declared.Count.{Count}
-use Rattle.values.specs.declared.Count.TheVariants.{Is, Not}
-use Rattle.values.specs.declared.Found.{Found}
-use Rattle.values.specs.declared.Found.TheVariants.{At, Missing}
 
 -- A number is an integer as document 01 says, 0 or digits that do not begin with 0, or some other number.
 mutual
@@ -35,26 +30,26 @@ mutual
     member : List ℕ → Json → Members → Members
 
 -- where a reader stopped
-abbrev pub end_of : Read → ℕ
-end_of (End e) = e
-end_of (Bad p) = p
+abbrev pub end_of : Result ℕ Bad → ℕ
+end_of (Ok e) = e
+end_of (Err b) = b.at
 
 -- the items of a list that may be empty: the closing bracket, or the rest
-abbrev pub unless : {A : Type 0} → Read → List A → (ℕ → List A) → List A
-unless (End e) l g = l
-unless (Bad p) l g = g p
+abbrev pub unless : {A : Type 0} → Result ℕ Bad → List A → (ℕ → List A) → List A
+unless (Ok e) l g = l
+unless (Err b) l g = g b.at
 
 -- the places that a walk by steps comes to, at most so many
-abbrev pub onward : Next → (ℕ → List ℕ) → List ℕ
-onward (More k) g = g k
-onward (Done k) g = []
-onward (Wrong k) g = []
+abbrev pub onward : Result Next Bad → (ℕ → List ℕ) → List ℕ
+onward (Ok (More k)) g = g k
+onward (Ok (Done k)) g = []
+onward (Err b) g = []
 
-unfoldable pub places : (ℕ → Next) → ℕ → ℕ → List ℕ
+unfoldable pub places : (ℕ → Result Next Bad) → ℕ → ℕ → List ℕ
 places step zero i = []
 places step (suc f) i = i ∷ onward (step i) (λ k. places step f k)
 
-unfoldable pub places_at : (ℕ → Next) → List ℕ → ℕ → List ℕ
+unfoldable pub places_at : (ℕ → Result Next Bad) → List ℕ → ℕ → List ℕ
 places_at step s i = places step (suc (length s)) i
 
 -- where the elements of an array, and the members of an object, begin, after the bracket
@@ -150,32 +145,31 @@ fields (string b) = nothing
 fields (array es) = nothing
 fields (object ms) = ms
 
+-- where the first item begins of what stands at a place, between two brackets, if it has one
+unfoldable pub first_in : ℕ → ℕ → ℕ → List ℕ → ℕ → Option ℕ
+first_in front back d s at =
+    cond (eqb d 0 || (not (eqb (byte_at s at) front) || is_ok (token_at back s (at + 1)))) None (Some (at + 1))
+
 -- those from where a walk begins, if it does
-abbrev pub items_from : ℕ → List ℕ → Found → Elements
-items_from d s (At j) = elements_from d s j
-items_from d s Missing = no_more
+abbrev pub items_from : ℕ → List ℕ → Option ℕ → Elements
+items_from d s (Some j) = elements_from d s j
+items_from d s None = no_more
 
-abbrev pub fields_from : ℕ → List ℕ → Found → Members
-fields_from d s (At j) = members_from d s j
-fields_from d s Missing = nothing
-
--- what may be missing
-pub data Maybe : Type 0 where
-  none : Maybe
-  some : Json → Maybe
+abbrev pub fields_from : ℕ → List ℕ → Option ℕ → Members
+fields_from d s (Some j) = members_from d s j
+fields_from d s None = nothing
 
 -- the first member of that name
-unfoldable pub find : List ℕ → Members → Maybe
-find name nothing = none
-find name (member n j ms) = cond (same_bytes n name) (some j) (find name ms)
+unfoldable pub find : List ℕ → Members → Option Json
+find name nothing = None
+find name (member n j ms) = cond (same_bytes n name) (Some j) (find name ms)
 
-unfoldable pub lookup : List ℕ → Json → Maybe
+unfoldable pub lookup : List ℕ → Json → Option Json
 lookup name j = find name (fields j)
 
 -- the tree at the place that a search found
-abbrev pub seen : (ℕ → Json) → Found → Maybe
-seen tree (At p) = some (tree p)
-seen tree Missing = none
+abbrev pub seen : (ℕ → Json) → Option ℕ → Option Json
+seen tree r = option_map tree r
 
 -- what kind of value it is
 abbrev pub is_null : Json → Bool
@@ -227,11 +221,11 @@ is_object (object ms) = true
 unfoldable pub capped : ℕ → ℕ
 capped n = cond (ltb n 1000000) n 1000000
 
-abbrev pub count_of : Json → Count
-count_of null = Not
-count_of (bool b) = Not
-count_of (integer n) = Is (capped n)
-count_of real = Not
-count_of (string b) = Not
-count_of (array es) = Not
-count_of (object ms) = Not
+abbrev pub count_of : Json → Option ℕ
+count_of null = None
+count_of (bool b) = None
+count_of (integer n) = Some (capped n)
+count_of real = None
+count_of (string b) = None
+count_of (array es) = None
+count_of (object ms) = None

@@ -1,15 +1,16 @@
 // Kinds of values, and integers.
-ghost use Rattle.std.specs.Prelude.{◌≡◌, ◌+◌, ◌-◌, ◌*◌, ◌≤◌, drop, take};
-ghost use Rattle.text.specs.Bytes.{is_digit};
-ghost use Rattle.jsontext.specs.Reading.{span_at, number_at};
+#![tactic(auto, using(crate::proofs::Counting::counting, crate::proofs::Sorts::kinds), unfolding(crate::specs::Tree::capped))]
+
+ghost use Rattle.std.specs.Prelude.{◌≡◌, ◌+◌, ◌-◌, ◌*◌, ◌≤◌, ◌<◌, ℕ, length, slice_index};
+ghost use Rattle.jsontext.specs.Reading.{number_at};
 ghost use Rattle.values.specs.Tree.{tree_at, is_null, is_bool, is_string, is_array, is_object, end_of, decimal, capped, count_of};
 ghost use Rattle.values.specs.Rules.{within};
 
-use super::Count;
-use jsontext::Read;
 use jsontext::numbers::{digits, number};
 use text::bytes::{byte_at, is_digit};
 
+// The kinds by the first byte. Each is one comparison, and its promise names its own definition: a function of the byte would be no
+// plainer.
 pub fn is_string(s: &[u8], at: usize, depth: usize) -> bool
     ensures { result ≡ is_string (tree_at depth s.now at) }
 {
@@ -39,27 +40,21 @@ pub fn is_bool(s: &[u8], at: usize, depth: usize) -> bool
     ensures { result ≡ is_bool (tree_at depth s.now at) }
 {
     let b = byte_at(s, at);
-    if b == b't' {
-        return true;
-    }
-    b == b'f'
+    b == b't' || b == b'f'
 }
 
 // Where a number ends.
 fn number_end(s: &[u8], at: usize) -> usize
     ensures { result ≡ end_of (number_at s.now at) }
 {
-    match number(s, at) {
-        Read::End(e) => e,
-        Read::Bad(e) => e,
-    }
+    number(s, at).unwrap_or_else(|b| b.at)
 }
 
 // At most 1000000.
 fn cap(n: u64) -> u64
     ensures { result ≡ capped n }
 {
-    if n < 1000000 { n } else { 1000000 }
+    n.min(1000000)
 }
 
 // One digit more.
@@ -70,45 +65,36 @@ fn plus(n: u64, b: u8) -> u64
     cap(n * 10 + (b - 48) as u64)
 }
 
-// The number that the digits from `at` to `e` give.
-fn digits_value(s: &[u8], at: usize, e: usize) -> u64
-    requires { (at ≤ e) × (e ≡ span_at is_digit s.now at) }
-    ensures { result ≡ capped (decimal 0 (take (e - at) (drop at s.now))) }
+// The number that these digits give.
+fn digits_value(digits: &[u8]) -> u64
+    requires { (k : ℕ) → k < length digits.now → 48 ≤ slice_index digits.now k }
+    ensures { result ≡ capped (decimal 0 digits.now) }
 {
-    let mut n: u64 = 0;
-    let mut i = at;
-    while i < e {
-        n = plus(n, s[i]);
-        i += 1;
+    let mut n = 0;
+    for b in digits {
+        n = plus(n, *b);
     }
     n
 }
 
 // An integer: digits, with no sign, fraction or exponent.
-pub fn integer(s: &[u8], at: usize, depth: usize) -> Count
+pub fn integer(s: &[u8], at: usize, depth: usize) -> Option<u64>
     ensures { result ≡ count_of (tree_at depth s.now at) }
 {
     if !is_digit(byte_at(s, at)) {
-        return Count::Not;
+        return None;
     }
     let e = digits(s, at);
     if number_end(s, at) == e {
-        return Count::Is(digits_value(s, at, e));
+        Some(digits_value(&s[at..e]))
+    } else {
+        None
     }
-    Count::Not
 }
 
 // Is an integer from `low` to `high`?
-pub fn in_range(c: Count, low: u64, high: u64) -> bool
+pub fn in_range(c: Option<u64>, low: u64, high: u64) -> bool
     ensures { result ≡ within low high c }
 {
-    match c {
-        Count::Is(n) => {
-            if low <= n {
-                return n <= high;
-            }
-            false
-        }
-        Count::Not => false,
-    }
+    c.is_some_and(|n| low <= n && n <= high)
 }

@@ -1,58 +1,49 @@
 // Members and elements. A walk stands at the place where a member or an element begins, white space before it included; the
 // first begins after the opening bracket.
-ghost use Rattle.std.specs.Prelude.{◌≡◌, ◌-◌};
+#![tactic(auto, using(crate::proofs::Walking::walking, crate::proofs::Walking::beginning), unfolding(crate::specs::Tree::first_in, crate::specs::Tree::place_at, jsontext::specs::Reading::skip_at, jsontext::specs::Reading::element_at, jsontext::specs::Reading::member_at))]
+
+ghost use Rattle.std.specs.Prelude.{◌≡◌, ◌-◌, ◌<◌};
 ghost use Rattle.text.specs.Words.{same_bytes};
 ghost use Rattle.jsontext.specs.Reading.{key_at, member_at, element_at, value_at};
 ghost use Rattle.values.specs.Decode.{bytes_at};
-ghost use Rattle.values.specs.Tree.{name_at, place_at, tree_at, items, fields, items_from, fields_from, members_from, find, lookup, seen};
+ghost use Rattle.values.specs.Tree.{name_at, place_at, tree_at, first_in, items, fields, items_from, fields_from, members_from, find, lookup, seen};
 
-use super::Found;
 use super::strings::string_is;
 use jsontext::reader::{key, value};
 use jsontext::space::{follow, skip, token};
-use jsontext::{Next, Read};
+use jsontext::{Bad, Next};
 use text::bytes::byte_at;
 
 // The member after the one that begins at a place, whose key is read.
-pub fn member_after(s: &[u8], at: usize, key: Read, depth: usize) -> Next
+pub fn member_after(s: &[u8], at: usize, key: Result<usize, Bad>, depth: usize) -> Result<Next, Bad>
     requires { key ≡ key_at s.now at }
     ensures { result ≡ member_at (value_at depth s.now) s.now at }
 {
-    match key {
-        Read::Bad(p) => Next::Wrong(p),
-        Read::End(v) => match value(s, skip(s, v), depth) {
-            Read::Bad(p) => Next::Wrong(p),
-            Read::End(e) => follow(s, e, b'}'),
-        },
-    }
+    let e = value(s, skip(s, key?), depth)?;
+    follow(s, e, b'}')
 }
 
 // The next member of an object, after the one that begins at a place.
-pub fn next_member(s: &[u8], at: usize, depth: usize) -> Next
+pub fn next_member(s: &[u8], at: usize, depth: usize) -> Result<Next, Bad>
     ensures { result ≡ member_at (value_at depth s.now) s.now at }
 {
     member_after(s, at, key(s, at), depth)
 }
 
 // The next element of an array, after the one that begins at a place.
-pub fn next_element(s: &[u8], at: usize, depth: usize) -> Next
+pub fn next_element(s: &[u8], at: usize, depth: usize) -> Result<Next, Bad>
     ensures { result ≡ element_at (value_at depth s.now) s.now at }
 {
-    match value(s, skip(s, at), depth) {
-        Read::Bad(p) => Next::Wrong(p),
-        Read::End(e) => follow(s, e, b']'),
-    }
+    let e = value(s, skip(s, at), depth)?;
+    follow(s, e, b']')
 }
 
 // Where the value of the member that begins at a place stands, after its key.
-pub fn value_place(s: &[u8], at: usize, key: Read) -> usize
+pub fn value_place(s: &[u8], at: usize, key: Result<usize, Bad>) -> usize
     requires { key ≡ key_at s.now at }
     ensures { result ≡ place_at s.now at }
 {
-    match key {
-        Read::Bad(p) => skip(s, p),
-        Read::End(v) => skip(s, v),
-    }
+    skip(s, key.unwrap_or_else(|b| b.at))
 }
 
 // Where the value of a member stands.
@@ -67,10 +58,7 @@ pub fn name_place(s: &[u8], at: usize) -> usize
     ensures { name_at s.now at ≡ bytes_at s.now result }
 {
     let i = skip(s, at);
-    if i >= s.len() {
-        return i;
-    }
-    i + 1
+    if i < s.len() { i + 1 } else { i }
 }
 
 // Has the member that begins at a place the name `w`?
@@ -84,73 +72,54 @@ pub fn named(s: &[u8], at: usize, w: &[u8]) -> bool
 pub fn inner(depth: usize) -> usize
     ensures { result ≡ depth - 1 }
 {
-    if depth == 0 {
-        return 0;
+    depth.saturating_sub(1)
+}
+
+// Where the first item begins of what stands at a place between the brackets `front` and `back`, if it has one.
+fn first_in(s: &[u8], at: usize, depth: usize, front: u8, back: u8) -> Option<usize>
+    requires { 0 < front }
+    ensures { result ≡ first_in front back depth s.now at }
+{
+    if depth == 0 || byte_at(s, at) != front || token(s, at + 1, back).is_ok() {
+        return None;
     }
-    depth - 1
+    Some(at + 1)
 }
 
 // Where the first element of the array at a place begins, if it has one.
-pub fn first_item(s: &[u8], at: usize, depth: usize) -> Found
+pub fn first_item(s: &[u8], at: usize, depth: usize) -> Option<usize>
     ensures { items (tree_at depth s.now at) ≡ items_from (depth - 1) s.now result }
 {
-    if depth == 0 {
-        return Found::Missing;
-    }
-    if byte_at(s, at) != b'[' {
-        return Found::Missing;
-    }
-    match token(s, at + 1, b']') {
-        Read::End(_) => Found::Missing,
-        Read::Bad(_) => Found::At(at + 1),
-    }
+    first_in(s, at, depth, b'[', b']')
 }
 
 // Where the first member of the object at a place begins, if it has one.
-pub fn first_field(s: &[u8], at: usize, depth: usize) -> Found
+pub fn first_field(s: &[u8], at: usize, depth: usize) -> Option<usize>
     ensures { fields (tree_at depth s.now at) ≡ fields_from (depth - 1) s.now result }
 {
-    if depth == 0 {
-        return Found::Missing;
-    }
-    if byte_at(s, at) != b'{' {
-        return Found::Missing;
-    }
-    match token(s, at + 1, b'}') {
-        Read::End(_) => Found::Missing,
-        Read::Bad(_) => Found::At(at + 1),
-    }
+    first_in(s, at, depth, b'{', b'}')
 }
 
 // Where the value of the member named `w` stands, among those from the one at a place on.
-pub fn seek(s: &[u8], at: usize, depth: usize, w: &[u8]) -> Found
+pub fn seek(s: &[u8], at: usize, depth: usize, w: &[u8]) -> Option<usize>
     ensures { find w.now (members_from depth s.now at) ≡ seen (tree_at depth s.now) result }
 {
     let mut j = at;
     loop {
         if named(s, j, w) {
-            return Found::At(member_place(s, j));
+            return Some(member_place(s, j));
         }
-        match next_member(s, j, depth) {
-            Next::Done(_) => {
-                return Found::Missing;
-            }
-            Next::Wrong(_) => {
-                return Found::Missing;
-            }
-            Next::More(k) => {
-                j = k;
-            }
-        }
+        let Ok(Next::More(k)) = next_member(s, j, depth) else {
+            return None;
+        };
+        j = k;
     }
 }
 
 // Where the value of the member named `w` of the object at a place stands.
-pub fn member(s: &[u8], at: usize, depth: usize, w: &[u8]) -> Found
+pub fn member(s: &[u8], at: usize, depth: usize, w: &[u8]) -> Option<usize>
     ensures { lookup w.now (tree_at depth s.now at) ≡ seen (tree_at (depth - 1) s.now) result }
 {
-    match first_field(s, at, depth) {
-        Found::Missing => Found::Missing,
-        Found::At(j) => seek(s, j, inner(depth), w),
-    }
+    let j = first_field(s, at, depth)?;
+    seek(s, j, inner(depth), w)
 }

@@ -1,34 +1,16 @@
-use Rattle.flows.specs.Rules.{let_through}
-use Rattle.builder.specs.Encoding.{rules_of}
 use borrow.Author.Rules.{rules}
-use Rattle.measured.proofs.Laws.{at_most_512, built_fit, over_written, lines_written}
+use native.Mathlib.Omega.{arith}
+use Rattle.reply.proofs.Built.{built_count, built_fit}
+use Rattle.measured.proofs.Laws.{over_written, lines_written}
 use Rattle.measured.proofs.build_and_write.Goals as goal
 
-pub build-requires : goal.build-requires
-build-requires c = search rules
-
-pub enum_told-1 : goal.enum_told-1
-enum_told-1 c = search rules
-
-pub enum_known-k : goal.enum_known-k
-enum_known-k c = search rules
+pub returns-in_default : goal.returns-in_default
+returns-in_default c = over_written c.build.ensures c.in_default.is
 
 pub write-requires : goal.write-requires
 write-requires c =
-    (search rules, search (rules, at_most_512), search rules, search (rules, built_fit))
+    let q = built_count _ c.build.ensures c.in-Some.is in
+    (search rules, omega (arith, q.0, q.1), search rules, built_fit _ c.build.ensures c.in-Some.is)
 
-pub shape_of-work-in-Over : goal.shape_of-work-in-Over
-shape_of-work-in-Over c = search rules
-
-pub returns-in-Over : goal.returns-in-Over
-returns-in-Over c =
-    search (rules, over_written)
-
-pub shape_of-work-in-Lines : goal.shape_of-work-in-Lines
-shape_of-work-in-Lines c = search rules
-
-pub shape_of-reply : goal.shape_of-reply
-shape_of-reply c = search rules
-
-pub returns-in-Lines : goal.returns-in-Lines
-returns-in-Lines c = lines_written (let_through (rules_of c.args.n c.args.work.now)) c.build.ensures c.in-Lines.is c.write.ensures
+pub returns : goal.returns
+returns c = lines_written _ c.build.ensures c.in-Some.is c.write.ensures

@@ -1,41 +1,11 @@
-use Rattle.reading.proofs.Walking.{walking}
+use Rattle.reading.proofs.Finding.{finding}
 use Rattle.reading.proofs.read_list.Goals as goal
 
-pub loop-t-init : goal.loop-t-init
-loop-t-init c = search walking
+pub returns-in_default : goal.returns-in_default
+returns-in_default c = search finding
 
-pub skip-requires : goal.skip-requires
-skip-requires c = search walking
+pub loop-k-preserved : goal.loop-k-preserved
+loop-k-preserved c = search finding
 
-pub read_entry-t-requires : goal.read_entry-t-requires
-read_entry-t-requires c = search walking
-
-pub next_element-requires : goal.next_element-requires
-next_element-requires c = search walking
-
-pub enum_told-1 : goal.enum_told-1
-enum_told-1 c = search walking
-
-pub shape_of-work-in-Done : goal.shape_of-work-in-Done
-shape_of-work-in-Done c = search walking
-
-pub returns-in-Done : goal.returns-in-Done
-returns-in-Done c = search walking
-
-pub enum_told-in-Wrong : goal.enum_told-in-Wrong
-enum_told-in-Wrong c = search walking
-
-pub shape_of-work-in-Wrong : goal.shape_of-work-in-Wrong
-shape_of-work-in-Wrong c = search walking
-
-pub returns-in-Wrong : goal.returns-in-Wrong
-returns-in-Wrong c = search walking
-
-pub enum_known-k : goal.enum_known-k
-enum_known-k c = search walking
-
-pub loop-t-smaller : goal.loop-t-smaller
-loop-t-smaller c = search walking
-
-pub loop-t-preserved : goal.loop-t-preserved
-loop-t-preserved c = search walking
+pub returns-in_default-2 : goal.returns-in_default-2
+returns-in_default-2 c = search finding

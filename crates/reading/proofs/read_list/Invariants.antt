@@ -6,8 +6,8 @@ use Rattle.values.specs.Tree.{elements_from}
 use Rattle.lists.specs.Lists.{to_list}
 use Rattle.reading.proofs.read_list.Given as goal
 
-abbrev pub invariant-loop-t : goal.invariant-loop-t
-invariant-loop-t l = Left l.d l.site (bytes_at l.s l.url) (to_list (elements_from 10 l.s l.at)) l.initial.t l.initial.work (to_list (elements_from 10 l.s l.j)) l.t l.work
+abbrev pub invariant-loop-k : goal.invariant-loop-k
+invariant-loop-k l = Left l.to.direction l.to.site.now (bytes_at l.s l.to.url) (to_list (elements_from 10 l.s l.at)) l.initial.t l.initial.work (to_list (elements_from 10 l.s l.j)) l.t l.work
 
-abbrev pub decreases-loop-t : goal.decreases-loop-t
-decreases-loop-t l = length l.s - l.j
+abbrev pub decreases-loop-k : goal.decreases-loop-k
+decreases-loop-k l = length l.s - l.j

@@ -6,6 +6,3 @@ use Rattle.builder.proofs.lines.stamp.Given as goal
 
 abbrev pub invariant-loop-i : goal.invariant-loop-i
 invariant-loop-i l = (l.i ≤ l.e) × (stamp_n l.c l.x (l.e - l.i) l.i l.work ≡ stamp_n l.c l.x (l.e - l.a) l.a l.initial.work) × (length l.work ≡ length l.initial.work)
-
-abbrev pub decreases-loop-i : goal.decreases-loop-i
-decreases-loop-i l = l.e - l.i

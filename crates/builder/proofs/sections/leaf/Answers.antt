@@ -1,17 +1,9 @@
-use Rattle.builder.proofs.Levels.{leaving}
+use native.Mathlib.Omega.{arith}
+use Rattle.builder.proofs.Levels.{leaf_one, leaf_none}
 use Rattle.builder.proofs.sections.leaf.Goals as goal
 
-pub accepts-requires : goal.accepts-requires
-accepts-requires c = search leaving
-
-pub blank-requires : goal.blank-requires
-blank-requires c = search leaving
-
-pub shape_of-work : goal.shape_of-work
-shape_of-work c = search leaving
-
 pub returns-then-accepts : goal.returns-then-accepts
-returns-then-accepts c = search leaving
+returns-then-accepts c = leaf_one _ _ _ _ _ _ _ _ _ (omega (arith, c.requires.0, c.told-work)) c.requires.1 c.accepts.ensures c.if-accepts.true c.blank.ensures
 
 pub returns-else-accepts : goal.returns-else-accepts
-returns-else-accepts c = search leaving
+returns-else-accepts c = leaf_none _ _ _ _ _ _ _ _ c.requires.1 c.accepts.ensures c.if-accepts.false

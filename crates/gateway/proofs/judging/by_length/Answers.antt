@@ -1,37 +1,16 @@
-use mathlib.Core.Path.{ap, ◌∙◌}
-use Rattle.stored.specs.Text.{reply_of}
-use Rattle.gateway.proofs.Stages.{judging, over_length, at_most_512, within_length, built_are, built_fit}
+use native.Mathlib.Omega.{arith}
 use borrow.Author.Rules.{rules}
+use Rattle.reply.proofs.Built.{built_count, built_fit}
+use Rattle.gateway.proofs.Stages.{over_length, within_length}
 use Rattle.gateway.proofs.judging.by_length.Goals as goal
-
-pub build-requires : goal.build-requires
-build-requires c = search rules
-
-pub enum_told-1 : goal.enum_told-1
-enum_told-1 c = search rules
-
-pub enum_known-k : goal.enum_known-k
-enum_known-k c = search rules
 
 pub write-requires : goal.write-requires
 write-requires c =
-    (search judging, search (judging, at_most_512), search judging, search (judging, built_fit))
+    let q = built_count _ c.build.ensures c.in-Some.is in
+    (search rules, omega (arith, q.0, q.1), search rules, built_fit _ c.build.ensures c.in-Some.is)
 
-pub shape_of-work-in-Over : goal.shape_of-work-in-Over
-shape_of-work-in-Over c = search rules
+pub returns-in_default : goal.returns-in_default
+returns-in_default c = over_length c.build.ensures c.in_default.is
 
-pub returns-in-Over : goal.returns-in-Over
-returns-in-Over c =
-    search (judging, over_length)
-
-pub shape_of-work-in-Lines : goal.shape_of-work-in-Lines
-shape_of-work-in-Lines c = search rules
-
-pub shape_of-reply : goal.shape_of-reply
-shape_of-reply c = search rules
-
-pub returns-in-Lines : goal.returns-in-Lines
-returns-in-Lines c =
-    let write = c.write in
-    let build = c.build in
-    within_length build.ensures (cc) (write.ensures ∙ ap reply_of (built_are _ build.ensures (cc)))
+pub returns : goal.returns
+returns c = within_length _ c.build.ensures c.in-Some.is c.write.ensures

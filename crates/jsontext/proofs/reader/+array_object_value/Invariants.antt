@@ -13,14 +13,14 @@ decreases-object l = l.depth + l.depth + 1
 abbrev pub decreases-value : goal.decreases-value
 decreases-value l = l.depth + l.depth
 
-abbrev pub invariant-array-loop-p : goal.invariant-array-loop-p
-invariant-array-loop-p l = Going (element_at (value_at l.depth l.s) l.s) l.s (array_at (value_at l.depth l.s) l.s l.at) l.j
+abbrev pub invariant-array-loop-e : goal.invariant-array-loop-e
+invariant-array-loop-e l = Going (element_at (value_at l.depth l.s) l.s) l.s (array_at (value_at l.depth l.s) l.s l.at) l.j
 
-abbrev pub decreases-array-loop-p : goal.decreases-array-loop-p
-decreases-array-loop-p l = length l.s - l.j
+abbrev pub decreases-array-loop-e : goal.decreases-array-loop-e
+decreases-array-loop-e l = length l.s - l.j
 
-abbrev pub invariant-object-loop-p : goal.invariant-object-loop-p
-invariant-object-loop-p l = Going (member_at (value_at l.depth l.s) l.s) l.s (object_at (value_at l.depth l.s) l.s l.at) l.j
+abbrev pub invariant-object-loop-v : goal.invariant-object-loop-v
+invariant-object-loop-v l = Going (member_at (value_at l.depth l.s) l.s) l.s (object_at (value_at l.depth l.s) l.s l.at) l.j
 
-abbrev pub decreases-object-loop-p : goal.decreases-object-loop-p
-decreases-object-loop-p l = length l.s - l.j
+abbrev pub decreases-object-loop-v : goal.decreases-object-loop-v
+decreases-object-loop-v l = length l.s - l.j

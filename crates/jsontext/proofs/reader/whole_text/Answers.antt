@@ -1,26 +1,11 @@
-use Rattle.jsontext.proofs.Nesting.{judging}
+use Rattle.jsontext.proofs.Nesting.{judging, whole_bad}
 use Rattle.jsontext.proofs.reader.whole_text.Goals as goal
 
-pub skip-at-requires : goal.skip-at-requires
-skip-at-requires c = search judging
-
-pub value-requires : goal.value-requires
-value-requires c = search judging
-
-pub enum_known-p : goal.enum_known-p
-enum_known-p c = search judging
-
-pub enum_known-e : goal.enum_known-e
-enum_known-e c = search judging
-
-pub skip-k-requires : goal.skip-k-requires
-skip-k-requires c = search judging
+pub returns-in_err-e : goal.returns-in_err-e
+returns-in_err-e c = whole_bad _ _ c.skip-at.ensures c.value.ensures c.in_err-e.was c.from_residual.ensures.1
 
 pub returns-then-k-s : goal.returns-then-k-s
-returns-then-k-s c = search judging
-
-pub returns-in-Bad : goal.returns-in-Bad
-returns-in-Bad c = search judging
+returns-then-k-s c = search (judging, c.in_ok-e.was)
 
 pub returns-else-k-s : goal.returns-else-k-s
-returns-else-k-s c = search judging
+returns-else-k-s c = search (judging, c.in_ok-e.was)

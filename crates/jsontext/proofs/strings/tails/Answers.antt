@@ -1,20 +1,16 @@
-use Rattle.jsontext.proofs.Lexing.{lexing}
+use mathlib.Core.Path.{refl}
+use Rattle.std.proofs.Common.{rules}
+use Rattle.text.specs.Bytes.{between}
+use Rattle.jsontext.specs.Reading.{tails_at}
 use Rattle.jsontext.proofs.strings.tails.Goals as goal
 
-pub byte_at-requires : goal.byte_at-requires
-byte_at-requires c = search lexing
-
-pub is_between-requires : goal.is_between-requires
-is_between-requires c = search lexing
-
-pub overflow_add-at : goal.overflow_add-at
-overflow_add-at c = search lexing
-
-pub tail-requires : goal.tail-requires
-tail-requires c = search lexing
-
-pub returns-then-is_between : goal.returns-then-is_between
-returns-then-is_between c = search lexing
+pub returns-in_err-i : goal.returns-in_err-i
+unfolding tails_at between
+returns-in_err-i c = let e = c.one.ensures (between c.args.low c.args.high) (record { zeroth = search rules; answers = λ b r l h. search rules }) in search rules
 
 pub returns : goal.returns
-returns c = search lexing
+unfolding tails_at between
+returns c =
+    let e = c.one.ensures (between c.args.low c.args.high) (record { zeroth = search rules; answers = λ b r l h. search rules }) in
+    let f = c.times.ensures (between 0x80 0xBF) (record { zeroth = refl; answers = λ b r l h. search rules }) in
+    search rules

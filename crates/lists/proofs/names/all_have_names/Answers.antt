@@ -1,53 +1,14 @@
-use Rattle.values.proofs.Patterns.{array_walk}
+use Rattle.std.proofs.Common.{rules, ◌∙◌, sym, not}
+use Rattle.values.proofs.Patterns.{all_some, array_walk}
+use Rattle.values.specs.Tree.{tree_at}
+use Rattle.lists.specs.Lists.{has_string_name}
+use Rattle.lists.proofs.Laws.{all_walked}
 use Rattle.lists.proofs.names.all_have_names.Goals as goal
-
-pub first_item-requires : goal.first_item-requires
-first_item-requires c = search array_walk
-
-pub enum_known-first : goal.enum_known-first
-enum_known-first c = search array_walk
-
-pub enum_told-1 : goal.enum_told-1
-enum_told-1 c = search array_walk
 
 pub returns-in_default : goal.returns-in_default
 returns-in_default c = search array_walk
 
-pub inner-d-requires : goal.inner-d-requires
-inner-d-requires c = search array_walk
-
-pub loop-at-init : goal.loop-at-init
-loop-at-init c = search array_walk
-
-pub skip-requires : goal.skip-requires
-skip-requires c = search array_walk
-
-pub has_name-requires : goal.has_name-requires
-has_name-requires c = search array_walk
-
-pub returns-then-not-has_name : goal.returns-then-not-has_name
-returns-then-not-has_name c = search array_walk
-
-pub next_element-requires : goal.next_element-requires
-next_element-requires c = search array_walk
-
-pub enum_told-in-Done : goal.enum_told-in-Done
-enum_told-in-Done c = search array_walk
-
-pub returns-in-Done : goal.returns-in-Done
-returns-in-Done c = search array_walk
-
-pub enum_told-in-Wrong : goal.enum_told-in-Wrong
-enum_told-in-Wrong c = search array_walk
-
-pub returns-in-Wrong : goal.returns-in-Wrong
-returns-in-Wrong c = search array_walk
-
-pub enum_known-k : goal.enum_known-k
-enum_known-k c = search array_walk
-
-pub loop-at-smaller : goal.loop-at-smaller
-loop-at-smaller c = search array_walk
-
-pub loop-at-preserved : goal.loop-at-preserved
-loop-at-preserved c = search array_walk
+pub returns : goal.returns
+returns c =
+    all_walked has_string_name _ _ _ (c.first_element.ensures (λ j. not (has_string_name j)) (λ x r h. search rules)) _ c.is_none.ensures
+    ∙ sym (all_some has_string_name (tree_at c.args.depth c.args.s.now c.args.at) _ c.args.s.now _ c.first_item.ensures c.in-Some.is c.inner-d.ensures)

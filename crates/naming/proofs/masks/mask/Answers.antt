@@ -1,38 +1,13 @@
-use Rattle.naming.proofs.Masking.{masking}
+use Rattle.naming.proofs.Masking.{masking, places_known, names_known, masking_more, masking_stop, masking_end}
 use Rattle.naming.proofs.masks.mask.Goals as goal
 
-pub loop-j-init : goal.loop-j-init
-loop-j-init c = search masking
-
-pub overflow_cast-i : goal.overflow_cast-i
-overflow_cast-i c = search masking
-
-pub offset_bounds-places-i : goal.offset_bounds-places-i
-offset_bounds-places-i c = search masking
-
-pub bounds-places-i : goal.bounds-places-i
-bounds-places-i c = search masking
-
-pub returns-then-w-eq0 : goal.returns-then-w-eq0
-returns-then-w-eq0 c = search masking
-
-pub is_wanted-requires : goal.is_wanted-requires
-is_wanted-requires c = search masking
-
-pub bit-m-requires : goal.bit-m-requires
-bit-m-requires c = search masking
-
-pub overflow_add-m : goal.overflow_add-m
-overflow_add-m c = search masking
-
-pub overflow_add-j : goal.overflow_add-j
-overflow_add-j c = search masking
-
-pub loop-j-smaller : goal.loop-j-smaller
-loop-j-smaller c = search masking
-
 pub loop-j-preserved : goal.loop-j-preserved
-loop-j-preserved c = search masking
+loop-j-preserved c =
+    masking_more _ _ (places_known c.site.view_is c.site.inside.places.now c.site.invariant) _ c.loop-j-test.true c.in-Some.is _ _ _ c.loop-j.invariant
+    (names_known c.site.view_is _ _ _ c.is_wanted.ensures) c.bit-m.ensures
 
-pub returns : goal.returns
-returns c = search masking
+pub returns-after-loop-j : goal.returns-after-loop-j
+returns-after-loop-j c = masking_end _ _ _ _ c.loop-j.invariant _ (places_known c.site.view_is c.site.inside.places.now c.site.invariant) (search masking)
+
+pub returns-in_default : goal.returns-in_default
+returns-in_default c = masking_stop _ _ (places_known c.site.view_is c.site.inside.places.now c.site.invariant) _ c.loop-j-test.true _ _ _ c.loop-j.invariant c.in_default.is

@@ -1,11 +1,7 @@
 use Rattle.naming.proofs.Masking.{Masking}
-use Prim.Native.Nat.{◌-◌}
 use Rattle.naming.specs.Named.{names}
 use Rattle.naming.specs.Wanted.{kind_of, test_of}
 use Rattle.naming.proofs.masks.mask.Given as goal
 
 abbrev pub invariant-loop-j : goal.invariant-loop-j
 invariant-loop-j l = Masking (names (kind_of l.wanted) (test_of l.text l.wanted) l.site) l.site l.j l.m
-
-abbrev pub decreases-loop-j : goal.decreases-loop-j
-decreases-loop-j l = 64 - l.j

@@ -1,29 +1,8 @@
-use Rattle.rules.proofs.PartLaws.{parting}
+use Rattle.std.proofs.Common.{◌∙◌}
+use Rattle.rules.proofs.PartLaws.{parting, opener_other}
 use Rattle.rules.proofs.parts.opener_in.Goals as goal
+use Rattle.rules.proofs.parts.opener_in.Goals.{else-byte_at-eq34-via-then-byte_at-eq34+else-string_is, else-byte_at-eq34-via-else-byte_at-eq34}
 
-pub enum_known-found : goal.enum_known-found
-enum_known-found c = search parting
-
-pub enum_told-1 : goal.enum_told-1
-enum_told-1 c = search parting
-
-pub returns-in_default : goal.returns-in_default
-returns-in_default c = search parting
-
-pub byte_at-requires : goal.byte_at-requires
-byte_at-requires c = search parting
-
-pub returns-then-byte_at-ne34 : goal.returns-then-byte_at-ne34
-returns-then-byte_at-ne34 c = search parting
-
-pub overflow_add-p : goal.overflow_add-p
-overflow_add-p c = search parting
-
-pub string_is-requires : goal.string_is-requires
-string_is-requires c = search parting
-
-pub returns-then-string_is : goal.returns-then-string_is
-returns-then-string_is c = search parting
-
-pub returns : goal.returns
-returns c = search parting
+pub returns-else-byte_at-eq34 : goal.returns-else-byte_at-eq34
+returns-else-byte_at-eq34 c =
+    elim c.else-byte_at-eq34.branch [ else-byte_at-eq34-via-then-byte_at-eq34+else-string_is w ↦ search parting | else-byte_at-eq34-via-else-byte_at-eq34 w ↦ c.only-else-byte_at-eq34.ensures ∙ opener_other _ _ c.in-Some.is c.byte_at.ensures w.if-byte_at-eq34.false ]

@@ -1,14 +1,14 @@
-use Rattle.stored.proofs.Putting.{putting}
+use Rattle.stored.proofs.Putting.{room_1, room_5, room_6, line_put}
 use Rattle.stored.proofs.write.put_line.Goals as goal
 
-pub put_front-p-requires : goal.put_front-p-requires
-put_front-p-requires c = search putting
+pub put_range-i-requires : goal.put_range-i-requires
+put_range-i-requires c = room_1 c.args.l _ _ c.requires
 
-pub put_back-requires : goal.put_back-requires
-put_back-requires c = search putting
+pub put_range-n-requires : goal.put_range-n-requires
+put_range-n-requires c = room_5 c.args.l _ _ c.requires c.put_range-i.ensures c.put_range-j.ensures c.put_range-k.ensures c.put_quads-m.ensures
 
-pub shape_of-buf : goal.shape_of-buf
-shape_of-buf c = search putting
+pub put_range-requires : goal.put_range-requires
+put_range-requires c = room_6 c.args.l _ _ c.requires c.put_range-i.ensures c.put_range-j.ensures c.put_range-k.ensures c.put_quads-m.ensures c.put_range-n.ensures
 
 pub returns : goal.returns
-returns c = search putting
+returns c = line_put c.args.l _ _ c.requires c.put_range-i.ensures c.put_range-j.ensures c.put_range-k.ensures c.put_quads-m.ensures c.put_range-n.ensures c.put_range.ensures

@@ -1,16 +1,7 @@
 use native.Mathlib.Omega.{arith}
 use Prim.Native.Nat.{◌/◌}
-use Rattle.text.proofs.WrittenLaws.{length_thousand, put_thousand, writing}
+use Rattle.text.proofs.WrittenLaws.{length_thousand, put_thousand}
 use Rattle.text.proofs.written.put_decimal.Goals as goal
-
-pub put_thousands-requires : goal.put_thousands-requires
-put_thousands-requires c = search writing
-
-pub shape_of-buf-then-n-lt1000000 : goal.shape_of-buf-then-n-lt1000000
-shape_of-buf-then-n-lt1000000 c = search writing
-
-pub returns-then-n-lt1000000 : goal.returns-then-n-lt1000000
-returns-then-n-lt1000000 c = search writing
 
 pub put_thousands-p-requires : goal.put_thousands-p-requires
 put_thousands-p-requires c =
@@ -23,9 +14,6 @@ put_three-q-requires c =
 pub put_three-requires : goal.put_three-requires
 put_three-requires c =
     let n = c.args.n in (omega arith, omega (arith, length_thousand n (omega arith), length_thousand (n / 1000) (omega arith)))
-
-pub shape_of-buf : goal.shape_of-buf
-shape_of-buf c = search writing
 
 pub returns : goal.returns
 returns c =

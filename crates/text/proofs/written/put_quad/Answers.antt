@@ -1,7 +1,7 @@
 use Prim.Native.Nat.{◌/◌, ◌%◌}
 use native.Mathlib.Omega.{arith}
 use Rattle.text.specs.Written.{quad}
-use Rattle.text.proofs.WrittenLaws.{quad_length, length_dotted, then_dot, writing}
+use Rattle.text.proofs.WrittenLaws.{quad_length, length_dotted, then_dot}
 use Rattle.text.proofs.written.put_quad.Goals as goal
 
 pub put_dotted-p-requires : goal.put_dotted-p-requires
@@ -19,9 +19,6 @@ put_dotted-r-requires c =
 pub put_small-requires : goal.put_small-requires
 put_small-requires c =
     let a = c.args.a in (omega arith, omega (arith, quad_length a, length_dotted (a / 16777216), length_dotted (a / 65536 % 256), length_dotted (a / 256 % 256)))
-
-pub shape_of-buf : goal.shape_of-buf
-shape_of-buf c = search writing
 
 pub returns : goal.returns
 unfolding quad

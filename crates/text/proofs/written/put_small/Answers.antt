@@ -6,9 +6,6 @@ pub put_digit-requires : goal.put_digit-requires
 put_digit-requires c =
     let n = c.args.n in (omega arith, omega (arith, length_some n))
 
-pub shape_of-buf-then-n-lt10 : goal.shape_of-buf-then-n-lt10
-shape_of-buf-then-n-lt10 c = search writing
-
 pub returns-then-n-lt10 : goal.returns-then-n-lt10
 returns-then-n-lt10 c = search writing
 
@@ -20,18 +17,12 @@ pub put_digit-requires-then-n-lt100 : goal.put_digit-requires-then-n-lt100
 put_digit-requires-then-n-lt100 c =
     let n = c.args.n in (omega arith, omega (arith, length_above 1 n (omega arith)))
 
-pub shape_of-buf-then-n-lt100 : goal.shape_of-buf-then-n-lt100
-shape_of-buf-then-n-lt100 c = search writing
-
 pub returns-then-n-lt100 : goal.returns-then-n-lt100
 returns-then-n-lt100 c = search writing
 
 pub put_three-requires : goal.put_three-requires
 put_three-requires c =
     let n = c.args.n in (omega arith, omega (arith, length_above 2 n (omega arith)))
-
-pub shape_of-buf : goal.shape_of-buf
-shape_of-buf c = search writing
 
 pub returns : goal.returns
 returns c = search writing

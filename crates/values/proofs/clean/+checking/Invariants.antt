@@ -15,14 +15,14 @@ decreases-check_object l = l.depth + l.depth + l.depth + 2
 abbrev pub decreases-check_value : goal.decreases-check_value
 decreases-check_value l = l.depth + l.depth + l.depth
 
-abbrev pub invariant-check_array-loop-p : goal.invariant-check_array-loop-p
-invariant-check_array-loop-p l = Elementing l.depth l.s l.at l.initial.area l.area l.lo l.j l.good
+abbrev pub invariant-check_array-loop-e : goal.invariant-check_array-loop-e
+invariant-check_array-loop-e l = Elementing l.depth l.s l.at l.initial.area l.area l.lo l.j l.good
 
-abbrev pub decreases-check_array-loop-p : goal.decreases-check_array-loop-p
-decreases-check_array-loop-p l = length l.s - l.j
+abbrev pub decreases-check_array-loop-e : goal.decreases-check_array-loop-e
+decreases-check_array-loop-e l = length l.s - l.j
 
-abbrev pub invariant-check_object-loop-p : goal.invariant-check_object-loop-p
-invariant-check_object-loop-p l = Membering l.depth l.s l.at l.initial.area l.area l.lo l.j l.hi l.good
+abbrev pub invariant-check_object-loop-v : goal.invariant-check_object-loop-v
+invariant-check_object-loop-v l = Membering l.depth l.s l.at l.initial.area l.area l.lo l.j l.hi l.good
 
-abbrev pub decreases-check_object-loop-p : goal.decreases-check_object-loop-p
-decreases-check_object-loop-p l = length l.s - l.j
+abbrev pub decreases-check_object-loop-v : goal.decreases-check_object-loop-v
+decreases-check_object-loop-v l = length l.s - l.j

@@ -1,0 +1,13 @@
+use Rattle.std.proofs.Common.{lit<}
+use Rattle.entries.proofs.places.matches_at.Goals as goal
+
+pub invariant_of-result-clause-held : goal.invariant_of-result-clause-held
+invariant_of-result-clause-held c =
+    rw c.ipv4_at.ensures.1
+    (record {
+      mud_is = c.members_of-m.ensures.place_is 0 (lit< tt);
+      ipv4_is = c.members_of-m.ensures.place_is 1 (lit< tt);
+      tcp_is = c.members_of-m.ensures.place_is 2 (lit< tt);
+      udp_is = c.members_of-m.ensures.place_is 3 (lit< tt);
+      listed_is = c.members_of-m.ensures.listed_is;
+    })
