@@ -7,19 +7,19 @@ ghost use Rattle.flows.specs.Rules.{in_some, in_all};
 ghost use Rattle.builder.specs.Encoding.{low_of, high_of, range_of, limits_of, at_most_seven, ruled};
 ghost use Rattle.builder.specs.Cells.{mask_from, near_of, meets_all};
 
-use crate::{RULES, Work};
+use crate::{BASE, RULES, Work};
 
 // The ends of a range, and whether it holds a value.
 pub fn low(w: u64) -> u64
     ensures { result ≡ low_of w }
 {
-    w / 4294967296
+    w / BASE
 }
 
 pub fn high(w: u64) -> u64
     ensures { result ≡ high_of w }
 {
-    w % 4294967296
+    w % BASE
 }
 
 #[tactic(auto, unfolding(flows::specs::Table::in_range))]
@@ -45,7 +45,7 @@ pub fn mask<P: Fn(usize) -> bool>(n: usize, passes: P) -> u64
 {
     let mut m: u64 = 0;
     for i in (0..n).rev() {
-        m = 2 * m + passes(i) as u64;
+        m = 2 * m + u64::from(passes(i));
     }
     m
 }

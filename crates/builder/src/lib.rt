@@ -7,7 +7,7 @@
 // Caller: write networks and rules, call `build`, read the lines by `table::range`, clear the buffer.
 #![tactic(auto)]
 
-ghost use Rattle.std.specs.Prelude.{◌≡◌, ◌≤◌, length};
+ghost use Rattle.std.specs.Prelude.{◌≤◌};
 ghost use Rattle.flows.specs.Table.{table_of};
 ghost use Rattle.flows.specs.Flow.{widths};
 ghost use Rattle.flows.specs.Rules.{let_through};
@@ -25,7 +25,10 @@ pub mod table;
 use live::Live;
 
 // A work buffer, and where its parts stand: the rules behind as many networks, with the builder's own in front.
-type Work = [u64; 16290];
+pub type Work = [u64; 16290];
+
+// A range is one word, low * BASE + high.
+const BASE: u64 = 4294967296;
 
 const RULES: usize = 64;
 
@@ -42,13 +45,10 @@ const OTHERS: usize = RULES + FIRST * RULE_LEN;
 
 // Builds the lines of the table of the flows that n rules let through, and returns their number; `None` for more than 512. There are at most 66
 // rules, for 64 entries and two defaults.
-pub fn build(work: &mut [u64], n: usize) -> Option<usize>
-    requires { (length work.old ≡ 16290) × (n ≤ 66) }
+pub fn build(work: &mut Work, n: usize) -> Option<usize>
+    requires { n ≤ 66 }
     ensures { BuiltIn (table_of widths (let_through (rules_of n work.old))) work.new result }
 {
-    let Some(work) = work.as_mut_array() else {
-        unreachable!()
-    };
     drops::put_flow_rules(work);
     let m = n + 5;
     cells::all_cells(work, m);

@@ -115,7 +115,7 @@ pub fn longer(run: Run, cell: Run) -> Run
     }
 }
 
-// A run of the last dimension, and whether the first of the live rules that hold it accepts: a verdict, with values either way.
+// A run of the last dimension, and whether the first of the live rules that hold it accepts. (No `Option`: it has values either way.)
 #[derive(Clone, Copy)]
 pub struct Judged {
     pub low: u64,

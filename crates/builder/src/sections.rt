@@ -14,7 +14,7 @@ use crate::live::{Judged, Live, accepts, cell_at, is_known, judged_at, longer, n
 // A table of more lines is refused.
 const MOST_LINES: usize = 512;
 
-// No dimension left: one line or none.
+// No dimension left: one line or none. (Not met by `build`, which has six: the recursion is total.)
 fn leaf(work: &mut Work, n: usize, at: usize, live: Live, accepting: Live) -> usize
     requires { (3 * at + 3 ≤ 16290) × Ready n accepting.first accepting.others (ruled work.old) work.old }
     ensures { BuiltTo (table_left 0 n (ruled work.old) live.first live.others) at 6 work.old work.new (Some result) }

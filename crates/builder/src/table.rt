@@ -7,8 +7,8 @@ ghost use Rattle.builder.specs.Encoding.{range_of, low_in, high_in, range_in, li
 use crate::LINES;
 use crate::lines::column;
 
-// The low end of dimension d, out of the word of a line that has it. Dimensions are numbers, as callers and definitions have them; each has
-// constants of its own here, since a base and a factor by number would have the machine divide.
+// The low end of dimension d, out of the word of a line that has it. Dimensions are numbers: `range`, which is public, takes the
+// number. Each has constants of its own here, since a base and a factor by number would have the machine divide.
 fn low_in(d: usize, w: u64) -> u64
     requires { d < 6 }
     ensures { (result ≡ low_in d w) × (result < 4294967296) }

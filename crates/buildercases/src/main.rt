@@ -3,8 +3,9 @@
 // first: the 64 networks, then 21 for each rule.
 #![tactic(auto)]
 
-ghost use Rattle.std.specs.Prelude.{◌≡◌, ◌<◌, ◌≤◌, length};
+ghost use Rattle.std.specs.Prelude.{◌<◌, ◌≤◌};
 
+use builder::Work;
 use files::read_full;
 use std::fs::File;
 use std::io;
@@ -12,8 +13,8 @@ use std::io::{BufReader, BufWriter, Read, Write};
 use std::net::Ipv4Addr;
 
 // Fills the words from `from` to below `to`.
-fn read_words(cases: &mut impl Read, work: &mut [u64], from: usize, to: usize) -> io::Result<()>
-    requires { (to ≤ 1555) × (length work.old ≡ 16290) }
+fn read_words(cases: &mut impl Read, work: &mut Work, from: usize, to: usize) -> io::Result<()>
+    requires { to ≤ 1555 }
 {
     for i in from..to {
         let mut b = [0u8; 8];
@@ -32,8 +33,8 @@ fn put_end(out: &mut impl Write, d: usize, end: u32) -> io::Result<()> {
     }
 }
 
-fn put_line(out: &mut impl Write, work: &[u64], i: usize) -> io::Result<()>
-    requires { (i < 512) × (16290 ≤ length work.now) }
+fn put_line(out: &mut impl Write, work: &Work, i: usize) -> io::Result<()>
+    requires { i < 512 }
 {
     for d in 0..6 {
         let range = builder::table::range(work, i, d);
@@ -45,9 +46,7 @@ fn put_line(out: &mut impl Write, work: &[u64], i: usize) -> io::Result<()>
     out.write_all(b"\n")
 }
 
-fn put_lines(out: &mut impl Write, work: &[u64], n: usize) -> io::Result<()>
-    requires { 16290 ≤ length work.now }
-{
+fn put_lines(out: &mut impl Write, work: &Work, n: usize) -> io::Result<()> {
     out.write_all(b"\n")?;
     for i in 0..n.min(512) {
         put_line(out, work, i)?;
@@ -55,8 +54,8 @@ fn put_lines(out: &mut impl Write, work: &[u64], n: usize) -> io::Result<()>
     Ok(())
 }
 
-fn put_table(out: &mut impl Write, work: &mut [u64], n: usize) -> io::Result<()>
-    requires { (length work.old ≡ 16290) × (n ≤ 66) }
+fn put_table(out: &mut impl Write, work: &mut Work, n: usize) -> io::Result<()>
+    requires { n ≤ 66 }
 {
     match builder::build(work, n) {
         None => out.write_all(b"\tover\n"),
@@ -92,6 +91,8 @@ fn run_case(cases: &mut impl Read, out: &mut impl Write) -> io::Result<bool> {
     Ok(true)
 }
 
+// A bound: what a file gives is not known to end. A loop of its own, as in the other programs: a shared one over
+// a closure could promise nothing of what it runs.
 fn run_all(cases: &mut impl Read, out: &mut impl Write) -> io::Result<()> {
     for _ in 1..10000 {
         if !run_case(cases, out)? {

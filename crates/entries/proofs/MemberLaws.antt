@@ -24,17 +24,15 @@ use Rattle.header.specs.Asked.{is_among}
 use Rattle.entries.specs.Members.{Begins, noted, all_noted, Noted, MembersFrom, MembersOf}
 
 -- ## a name by its first byte
-pub begins_not : (s : List ℕ) (at : ℕ) → Begins s at 0
-begins_not s at = record { known = λ f. absurd (f refl) }
+pub begins_not : (s : List ℕ) (at : ℕ) → Begins s at None
+begins_not s at = record { known = λ q. cc }
 
-pub begins_is : (s : List ℕ) (at b : ℕ) → b ≡ get_or s at 0 → 32 ≤ b → (b ≡ 34 → ⊥) → (b ≡ 92 → ⊥) → Begins s at b
+begins_at : (s : List ℕ) (at b : ℕ) → b ≡ get_or s at 0 → 32 ≤ b → (b ≡ 34 → ⊥) → (b ≡ 92 → ⊥) → bytes_at s at ≡ b ∷ bytes_at s (at + 1)
 unfolding piece_at
-begins_is s at b e l q v =
-    record {
-      known =
-          λ f. string_turn s at
-          ∙ rw (← e, le-ltb b 32 l, ne_eqb b 34 q, ne_eqb b 92 v);
-    }
+begins_at s at b e l q v = string_turn s at ∙ rw (← e, le-ltb b 32 l, ne_eqb b 34 q, ne_eqb b 92 v)
+
+pub begins_is : (s : List ℕ) (at b : ℕ) → b ≡ get_or s at 0 → 32 ≤ b → (b ≡ 34 → ⊥) → (b ≡ 92 → ⊥) → Begins s at (Some b)
+begins_is s at b e l q v = let h = begins_at s at b e l q v in record { known = λ q. cc }
 
 -- ## one member
 noted_no : (f : Option ℕ) (p : ℕ) → noted f false p ≡ f

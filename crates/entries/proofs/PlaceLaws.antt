@@ -23,7 +23,6 @@ use Rattle.entries.specs.declared.places.Tcp.{Tcp}
 use Rattle.entries.specs.declared.places.Udp.{Udp}
 use Rattle.entries.specs.declared.places.Matches.{Matches}
 use Rattle.entries.specs.declared.places.Entry.{Entry}
-use Rattle.entries.specs.declared.places.Sides.{Sides}
 use Rattle.entries.specs.Places.{SidesOf}
 
 -- ## rules over what may be missing
@@ -46,7 +45,7 @@ unfolding mud_ok
 mud_is None = refl
 mud_is (Some j) = refl
 
-may_sides : (d : Direction) (m : Option Json) → may m (sides_ok d) ≡ (may (under (remote_network d) m) (obeys (Spelt Network)) && (may (under (remote_name d) m) (obeys Text) && (may (under (device_network d) m) (obeys Nothing) && may (under (device_name d) m) (obeys Nothing))))
+pub may_sides : (d : Direction) (m : Option Json) → may m (sides_ok d) ≡ (may (under (remote_network d) m) (obeys (Spelt Network)) && (may (under (remote_name d) m) (obeys Text) && (may (under (device_network d) m) (obeys Nothing) && may (under (device_name d) m) (obeys Nothing))))
 unfolding sides_named sides_ok
 may_sides d None = refl
 may_sides d (Some j) = refl
@@ -153,9 +152,6 @@ module _ (i : Ipv4) where
     pub ipv4_is : may (seen (tree_at 8 i.s.now) i.found) (ipv4_ok d) ≡ (may (seen (tree_at 8 i.s.now) i.found) is_object && (may (seen (tree_at 7 i.s.now) i.protocol) (obeys (Integer 0 255)) && may (seen (tree_at 8 i.s.now) i.found) (sides_ok d)))
     ipv4_is = rw (may_ipv4 d (seen (tree_at 8 i.s.now) i.found), i.held.protocol_is)
 
-pub sides_are : (d : Direction) (s : List ℕ) (f : Option ℕ) {x : Sides} → SidesOf d s f x → may (seen (tree_at 8 s) f) (sides_ok d) ≡ (may (seen (tree_at 7 s) x.network) (obeys (Spelt Network)) && (may (seen (tree_at 7 s) x.name) (obeys Text) && (may (seen (tree_at 7 s) x.elsewhere) (obeys Nothing) && may (seen (tree_at 7 s) x.stranger) (obeys Nothing))))
-sides_are d s f h = rw (may_sides d (seen (tree_at 8 s) f), h.network, h.name, h.elsewhere, h.stranger)
-
 module _ (p : Port) where
   pub port_listed : p.listed ≡ may (seen (tree_at 7 p.s.now) p.found) (only port_names)
   port_listed = p.held.listed_is
@@ -212,4 +208,4 @@ module _ (e : Entry) where
   unfolding entry_ok
   entry_is d = rw (e.held.matches_is, e.in_file)
 
-pub ruleset placing = (rules, mud_is, port_is, mud_listed, strings_are, nulls_are, ipv4_listed, sides_from, sides_to, ipv4_is, sides_are, port_listed, ordered_is, range_is, operator_is, tcp_known, ports_are, tcp_is, udp_known, inside_is, protocol_stands, tcp_stands, udp_stands, matches_are, entry_known_is, action_is, entry_is)
+pub ruleset placing = (rules, mud_is, port_is, mud_listed, strings_are, nulls_are, ipv4_listed, sides_from, sides_to, ipv4_is, may_sides, port_listed, ordered_is, range_is, operator_is, tcp_known, ports_are, tcp_is, udp_known, inside_is, protocol_stands, tcp_stands, udp_stands, matches_are, entry_known_is, action_is, entry_is)

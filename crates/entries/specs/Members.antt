@@ -9,8 +9,8 @@ use Rattle.header.specs.Asked.{is_among}
 use Rattle.entries.specs.Known.{only}
 
 -- the first byte of the string at a place, where it is known
-pub record Begins (s : List ℕ) (at b : ℕ) : Type 0 where
-  pub known : (b ≡ 0 → ⊥) → bytes_at s at ≡ b ∷ bytes_at s (at + 1)
+pub record Begins (s : List ℕ) (at : ℕ) (head : Option ℕ) : Type 0 where
+  pub known : {b : ℕ} → head ≡ Some b → bytes_at s at ≡ b ∷ bytes_at s (at + 1)
 
 -- what is known of one name after a member whose value stands at p: the first one counts
 abbrev pub noted : Option ℕ → Bool → ℕ → Option ℕ

@@ -1,4 +1,4 @@
--- Where the members of an entry stand: what each place found stands for, and whether the object has others.
+-- Where the members of an entry stand: what each place found stands for, and whether the object has no others.
 use Rattle.std.specs.Prelude.{ℕ, ◌≡◌, List, Bool, Option}
 use Rattle.text.specs.Ascii.{ascii}
 use Rattle.flows.specs.declared.Direction.{Direction}
@@ -8,6 +8,7 @@ use Rattle.entries.specs.Known.{only, match_names, mud_names, ipv4_names, tcp_na
 use Rattle.entries.specs.Sound.{remote_network, device_network, remote_name, device_name}
 use Rattle.entries.specs.declared.places.Sides.{Sides}
 
+-- ## the members of one object each; `listed` is whether it has no others
 pub record MudAt (s : List ℕ) (found manufacturer model controller kin local mine : Option ℕ) (listed : Bool) : Type 0 where
   pub manufacturer_is : under (ascii "manufacturer") (seen (tree_at 8 s) found) ≡ seen (tree_at 7 s) manufacturer
   pub model_is : under (ascii "model") (seen (tree_at 8 s) found) ≡ seen (tree_at 7 s) model

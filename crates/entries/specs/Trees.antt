@@ -1,5 +1,6 @@
--- Two proofs that two trees are the same are one proof, so that a value may hold such a fact: a tree is given back by the
--- steps that build it.
+-- A proof, here since the types of src/places.rt need it (a `ghost use` takes nothing from the crate's own proofs); no contract
+-- rests on it. Two proofs that two trees are the same are one proof, so that a value may hold such a fact: a tree is given back
+-- by the steps that build it.
 use Rattle.std.specs.Prelude.{ℕ, List, [], ◌∷◌, Bool, true, false, cond, eqb, ◌≡◌, refl, Option}
 use Rattle.std.specs.Coded.{Coded, code_by, coded×, coded_ℕ, coded_list, coded_option, coded_bool, Coded-set}
 use Rattle.std.proofs.Common.{◌∙◌, ap}

@@ -15,6 +15,7 @@ fn are_listed(s: &[u8], source: Option<usize>, destination: Option<usize>) -> bo
     port_at(s, source).listed && port_at(s, destination).listed
 }
 
+// The same text for `tcp` and `udp`: each promises of its own names.
 impl Tcp<'_> {
     fn is_known(&self) -> bool
         ensures { result ≡ may (seen (tree_at 8 self.now.s.now) self.now.found) (ports_known tcp_names) }

@@ -3,7 +3,7 @@
 #![tactic(auto)]
 
 mod known; // number 9
-mod members; // some members of one object
+pub mod members; // some members of one object
 pub mod places; // where all of them stand
 mod ports;
 mod sound; // number 10

@@ -21,28 +21,29 @@ pub struct Members<const N: usize> {
     pub listed: bool,
 }
 
-// The first byte of a string that stands for itself; 0 where it does not.
-fn head(s: &[u8], at: usize) -> u8
+// The first byte of a string, if it stands for itself.
+fn head(s: &[u8], at: usize) -> Option<u8>
     ensures { Begins s.now at result }
 {
     let b = byte_at(s, at);
     if b < 0x20 || b == b'"' || b == b'\\' {
-        0
+        None
     } else {
-        b
+        Some(b)
     }
 }
 
 // Most names differ in their first byte: the rest is compared where that is the same, or not known.
-fn is_named(s: &[u8], at: usize, head: u8, w: &[u8]) -> bool
+fn is_named(s: &[u8], at: usize, head: Option<u8>, w: &[u8]) -> bool
     requires { Begins s.now at head }
     ensures { result ≡ same_bytes (bytes_at s.now at) w.now }
 {
-    (head == 0 || head == byte_at(w, 0)) && string_is(s, at, w)
+    head.is_none_or(|b| b == byte_at(w, 0)) && string_is(s, at, w)
 }
 
 // What is known after the member whose name begins at i, and whose value stands at p: the first member of a name counts.
-// The names are a slice: an array of slices whose length is a parameter has no proof yet.
+// The names are a slice: an array of slices whose length is a parameter has no proof yet. The places go by an index: tried,
+// and of what is written under `iter_mut().zip(names)` nothing is known.
 fn note_all<const N: usize>(
     s: &[u8],
     i: usize,
@@ -57,8 +58,8 @@ fn note_all<const N: usize>(
     let h = head(s, i);
     let mut places = m.places;
     let mut listed = false;
-    for k in 0..N {
-        if is_named(s, i, h, names[k]) {
+    for (k, name) in names.iter().enumerate() {
+        if is_named(s, i, h, name) {
             places[k] = places[k].or(Some(p));
             listed = true;
         }

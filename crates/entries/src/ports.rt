@@ -40,9 +40,7 @@ impl Port<'_> {
     fn is_range_form(&self) -> bool
         ensures { result ≡ must (seen (tree_at 7 self.now.s.now) self.now.found) is_range_form }
     {
-        self.ends_in_order()
-            && may_obey(self.s, self.port, 6, Asked::Nothing)
-            && may_obey(self.s, self.operator, 6, Asked::Nothing)
+        self.ends_in_order() && self.port.is_none() && self.operator.is_none()
     }
 
     fn is_operator_form(&self) -> bool
@@ -50,8 +48,8 @@ impl Port<'_> {
     {
         must_obey(self.s, self.port, 6, Asked::Integer(0, 65535))
             && may_obey(self.s, self.operator, 6, Asked::Spelt(Form::Operator))
-            && may_obey(self.s, self.lower, 6, Asked::Nothing)
-            && may_obey(self.s, self.upper, 6, Asked::Nothing)
+            && self.lower.is_none()
+            && self.upper.is_none()
     }
 
     fn is_sound(&self) -> bool
@@ -69,7 +67,7 @@ fn may_be_port(s: &[u8], found: Option<usize>) -> bool
 
 impl Tcp<'_> {
     // The members that `tcp` and `udp` have in common.
-    pub fn are_ports(&self) -> bool
+    pub(crate) fn are_ports(&self) -> bool
         ensures { result ≡ may (seen (tree_at 8 self.now.s.now) self.now.found) ports_ok }
     {
         may_be_object(self.s, self.found, 8)

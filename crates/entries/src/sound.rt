@@ -50,8 +50,8 @@ impl Ipv4<'_> {
         let x = sides_of(self, d);
         may_obey(self.s, x.network, 7, Asked::Spelt(Form::Network))
             && may_obey(self.s, x.name, 7, Asked::Text)
-            && may_obey(self.s, x.elsewhere, 7, Asked::Nothing)
-            && may_obey(self.s, x.stranger, 7, Asked::Nothing)
+            && x.elsewhere.is_none()
+            && x.stranger.is_none()
     }
 
     fn is_sound(&self, d: Direction) -> bool
@@ -86,6 +86,7 @@ impl Matches<'_> {
             || tcp_at(self.s, self.tcp).is_sound() && self.udp.is_none() && self.protocol_is(6)
     }
 
+    // The ports of a `udp` stand as those of a `tcp`.
     fn may_be_udp(&self) -> bool
         ensures { result ≡ may (seen (tree_at 9 self.now.s.now) self.now.found) (λ m. may (lookup (ascii "udp") m) (udp_beside m)) }
     {

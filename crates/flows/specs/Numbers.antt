@@ -24,6 +24,11 @@ point_of n =
     n.direction ∷ (n.protocol.0 ∷ (n.opener ∷ (n.address.0 ∷ (n.remote.0 ∷ (n.device.0 ∷ [])))))
 
 -- "In a from-device list the destination is the remote and the source the device; in a to-device list the reverse."
+abbrev pub by_side : {A : Type 0} → Direction → A → A → A × A
+by_side FromDevice source destination = (destination, source)
+by_side ToDevice source destination = (source, destination)
+
+-- of ports: by_side's, each with its own type
 abbrev pub sides_of : Direction → ℕ → ℕ → Sides
 sides_of FromDevice source destination = record { remote = record { 0 = destination }; device = record { 0 = source } }
 sides_of ToDevice source destination = record { remote = record { 0 = source }; device = record { 0 = destination } }

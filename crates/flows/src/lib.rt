@@ -3,7 +3,7 @@
 
 ghost use Rattle.std.specs.Prelude.{◌≡◌};
 ghost use Rattle.flows.specs.Flow.{flow_numbers, is_flow};
-ghost use Rattle.flows.specs.Numbers.{direction_number, opener_number, point_of, sides_of};
+ghost use Rattle.flows.specs.Numbers.{direction_number, opener_number, point_of, by_side, sides_of};
 
 #[derive(Clone, Copy, Debug, PartialEq, Eq)]
 pub enum Direction {
@@ -17,27 +17,27 @@ pub enum Opener {
     Remote,
 }
 
-#[derive(Clone, Copy)]
+#[derive(Clone, Copy, Debug, PartialEq, Eq)]
 pub struct Protocol(pub u8);
 
-#[derive(Clone, Copy)]
+#[derive(Clone, Copy, Debug, PartialEq, Eq)]
 pub struct Address(pub u32);
 
 // Two ports that must not be taken for each other: only `sides_of` makes them of a packet's ports.
-#[derive(Clone, Copy)]
+#[derive(Clone, Copy, Debug, PartialEq, Eq)]
 pub struct RemotePort(pub u16);
 
-#[derive(Clone, Copy)]
+#[derive(Clone, Copy, Debug, PartialEq, Eq)]
 pub struct DevicePort(pub u16);
 
-#[derive(Clone, Copy)]
+#[derive(Clone, Copy, Debug, PartialEq, Eq)]
 pub struct Sides {
     pub remote: RemotePort,
     pub device: DevicePort,
 }
 
 // Six numbers that may be a flow. Direction and opener come as numbers, since they may be neither 0 nor 1.
-#[derive(Clone, Copy)]
+#[derive(Clone, Copy, Debug, PartialEq, Eq)]
 pub struct Numbers {
     pub direction: u8,
     pub protocol: Protocol,
@@ -69,19 +69,24 @@ impl From<Opener> for u8 {
     }
 }
 
-// The direction rule: whose port a packet's source and destination port are.
+// The direction rule: of what goes with a packet's source and its destination, the remote's and the device's.
+pub fn by_side<T>(d: Direction, source: T, destination: T) -> (T, T)
+    ensures { result ≡ by_side d source destination }
+{
+    match d {
+        Direction::FromDevice => (destination, source),
+        Direction::ToDevice => (source, destination),
+    }
+}
+
+// Whose port a packet's source and destination port are.
 pub fn sides_of(d: Direction, source: u16, destination: u16) -> Sides
     ensures { result ≡ sides_of d source destination }
 {
-    match d {
-        Direction::FromDevice => Sides {
-            remote: RemotePort(destination),
-            device: DevicePort(source),
-        },
-        Direction::ToDevice => Sides {
-            remote: RemotePort(source),
-            device: DevicePort(destination),
-        },
+    let (remote, device) = by_side(d, source, destination);
+    Sides {
+        remote: RemotePort(remote),
+        device: DevicePort(device),
     }
 }
 

@@ -19,7 +19,6 @@ use Rattle.flows.proofs.Meaning.{one_line_each, in_table_lem, equal_tables_same_
 use Rattle.flows.proofs.Stored.{table_lines}
 use Rattle.values.specs.Tree.{tree_of}
 use Rattle.rules.specs.Meaning.{lets}
-use Rattle.std.specs.Prelude.{Result, Ok, Err}
 use Rattle.stored.specs.Text.{table_text, reply_of}
 use Rattle.stored.specs.Stored.{lines, stored_of, verdict_of, verdict_number}
 use Rattle.stored.specs.declared.answer.Verdict.{Verdict}

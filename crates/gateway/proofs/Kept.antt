@@ -1,7 +1,6 @@
 -- Between the rows of the numbers and what a file must keep. Assumes nothing.
 use Rattle.jsontext.specs.declared.Bad.{Bad}
 use Rattle.std.specs.Prelude.{Err, Ok, Result, is_ok}
-use Rattle.gateway.specs.declared.Reason.{Reason}
 use Prim.Native.Nat.{ℕ, ◌≤◌, ◌<◌}
 use mathlib.Core.Path.{◌≡◌, refl, sym}
 use mathlib.Core.Bool.{true, false, ◌&&◌}

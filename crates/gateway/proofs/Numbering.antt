@@ -19,7 +19,7 @@ use Rattle.lists.specs.Lists.{policies_ok}
 use Rattle.rules.specs.Read.{all_known, all_sound, entries_read}
 use Rattle.text.proofs.Tests.{clash}
 use Rattle.gateway.specs.declared.Reason.{Reason}
-use Rattle.gateway.specs.declared.Reason.TheVariants.{Buffers, SiteTooLong, SiteMalformed, FileTooLong, NotJson, NamesOrSurrogates, Header, Lists, UnknownMember, BadEntry, TooManyEntries, TooManyLines}
+use Rattle.gateway.specs.declared.Reason.TheVariants.{Buffers, FileTooLong, Header, Lists, UnknownMember, BadEntry, TooManyEntries, TooManyLines}
 use Rattle.gateway.specs.Answer.{answer_number, table_for, by_length, by_entries, by_rules, file_reason, site_reason, then_after, by_file, sized, answer_of}
 use Rattle.gateway.specs.Order.{tree_rows, conditions, lowest}
 

@@ -1,16 +1,15 @@
 -- The stages of a build, one law for each way out. Assumes nothing.
-use Rattle.std.specs.Prelude.{Err, Ok, Result, ⊤}
+use Rattle.std.specs.Prelude.{Err, Ok, Result, ⊤, Option, Some, None, IsErrAnd, is_err}
 use Prim.Native.Nat.{ℕ, ◌+◌, ◌≤◌, ◌<◌}
-use mathlib.Core.Path.{◌≡◌, refl, sym, ap, ap₂, ◌∙◌, subst}
+use mathlib.Core.Path.{◌≡◌, refl, sym, ap, ap₂, ◌∙◌}
 use mathlib.Core.Bool.{Bool, true, false, cond, not}
 use mathlib.Core.List.{List}
 use native.Mathlib.Omega.{arith}
-use Rattle.std.specs.Prelude.{Option, Some, None}
-use lib.Dec.{eqb, ltb, leb}
+use lib.Dec.{ltb}
 use lib.ListN.{length, replicate}
 use borrow.Author.Rules.{rules}
 use borrow.Author.Tests.{not-true, not-false, eqb-true, leb-true, leb-false, ltb-false, lt-ltb, le-ltb, eq-eqb, ne_eqb}
-use Rattle.text.proofs.Tests.{by_test, clash, and_left, and_right}
+use Rattle.text.proofs.Tests.{by_test, clash}
 use Rattle.flows.specs.Table.{Point, Set, Table, table_of}
 use Rattle.flows.specs.Flow.{widths}
 use Rattle.flows.specs.Rules.{Rule, let_through}
@@ -18,9 +17,7 @@ use Rattle.flows.proofs.Meaning.{same_table}
 use Rattle.builder.specs.Encoding.{rules_of}
 use Rattle.builder.specs.Promise as builder
 use Rattle.builder.proofs.Turns.{over_of}
-use Rattle.jsontext.specs.Reading.{text_of}
 use Rattle.values.specs.Tree.{tree_of}
-use Rattle.values.specs.Clean.{clean, verdict_of}
 use Rattle.site.specs.Site.{judged}
 use Rattle.naming.proofs.Lines.{lines_few}
 use Rattle.reading.specs.declared.Tally.{Tally}
@@ -31,14 +28,12 @@ use Rattle.reading.proofs.Lets.{lets_rules, tally_known, tally_sound, tally_coun
 use Rattle.rules.specs.Read.{all_known, all_sound, entries_read}
 use Rattle.rules.specs.Meaning.{lets}
 use Rattle.stored.specs.Text.{reply_of}
-use Rattle.stored.specs.Words.{Fits}
 use Rattle.reply.specs.Lines.{lines_in}
 use Rattle.reply.proofs.Built.{built_count, built_are}
-use Rattle.std.specs.Prelude.{IsErrAnd, is_err}
 use Rattle.std.proofs.lemmas.Result.{err_from_is_err_and}
 use Rattle.gateway.specs.declared.Reason.{Reason}
-use Rattle.gateway.specs.declared.Reason.TheVariants.{SiteTooLong, SiteMalformed, FileTooLong, NotJson, NamesOrSurrogates, Buffers, TooManyEntries, TooManyLines}
-use Rattle.gateway.specs.Answer.{table_for, by_length, by_entries, by_rules, file_reason, site_reason, then_after, by_file, sized, answer_of, reply_after}
+use Rattle.gateway.specs.declared.Reason.TheVariants.{Buffers, TooManyEntries, TooManyLines}
+use Rattle.gateway.specs.Answer.{table_for, by_length, by_entries, site_reason, then_after, by_file, sized, answer_of, reply_after}
 use Rattle.gateway.specs.Stages.{Answered}
 use Rattle.gateway.specs.Promise.{BuildPromise}
 
@@ -124,34 +119,15 @@ module _ {F : Type 0} (why : F → Reason) {r p : Result ⊤ F} (e : r ≡ p) (x
   pub judged_passes : {u : ⊤} → r ≡ Ok u → then_after why p x ≡ x
   judged_passes q = ap (λ v. then_after why v x) (sym e ∙ q)
 
--- ## 4 to 6
-module _ (file site : List ℕ) where
-  pub file_long : 32768 < length file → Err FileTooLong ≡ by_file file site
-  unfolding by_file
-  file_long h = rw (lt-ltb 32768 (length file) h)
+-- ## 1
+module _ (file site : List ℕ) (reply work : ℕ) where
+  pub wrong_reply : (reply ≡ 36864 → ⊥) → Err Buffers ≡ answer_of file site reply work
+  unfolding answer_of sized
+  wrong_reply n = rw (ne_eqb reply 36864 n)
 
-  pub file_judged : length file ≤ 32768 → by_file file site ≡ then_after file_reason (verdict_of (text_of 16 file) (clean (tree_of 16 file))) (by_rules (tree_of 16 file) (by_length (table_for file site)))
-  unfolding by_file
-  file_judged h = rw (le-ltb 32768 (length file) h)
-
--- ## 1 to 3
-module _ (reply work : ℕ) {b : Bool} (e : b ≡ sized reply work) where
-  pub wrong_sizes : (file site : List ℕ) → b ≡ false → Err Buffers ≡ answer_of file site reply work
-  unfolding answer_of
-  wrong_sizes file site n = rw (← e, n)
-
-  module _ (n : b ≡ true) where
-    pub reply_fits : reply ≡ 36864
-    unfolding sized
-    reply_fits = eqb-true reply 36864 (and_left _ _ (sym e ∙ n))
-
-    pub work_fits : work ≡ 16290
-    unfolding sized
-    work_fits = eqb-true work 16290 (and_right (eqb reply 36864) _ (sym e ∙ n))
-
-    pub site_judged : (file site : List ℕ) → answer_of file site reply work ≡ then_after site_reason (judged site) (by_file file site)
-    unfolding answer_of
-    site_judged file site = rw (← e, n)
+  pub right_sizes : reply ≡ 36864 → work ≡ 16290 → answer_of file site reply work ≡ then_after site_reason (judged site) (by_file file site)
+  unfolding answer_of sized
+  right_sizes r w = rw (eq-eqb reply 36864 r, eq-eqb work 16290 w)
 
 -- ## the buffers at the end
 module _ {file site : List ℕ} {reply work : ℕ} {r : Result ℕ Reason} {bytes : List ℕ} (h : Answered (answer_of file site reply work) (table_for file site) r bytes) {words : List ℕ} (w : words ≡ replicate work 0) where

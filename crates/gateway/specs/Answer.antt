@@ -1,7 +1,6 @@
 -- THE WHOLE ANSWER of a build (document 01, 'Answer numbers and their order'): "The lowest number that holds is given; each is judged only
 -- when no lower one holds." Nothing of what the buffers held before is an argument.
-use Rattle.std.specs.Prelude.{Err, Ok, Result, ⊤}
-use Rattle.std.specs.Prelude.{ℕ, Bool, cond, not, ◌&&◌, List, eqb, ltb, length, replicate}
+use Rattle.std.specs.Prelude.{Err, Ok, Result, ⊤, ℕ, Bool, cond, not, ◌&&◌, List, eqb, ltb, length, replicate}
 use Rattle.flows.specs.Table.{Table, table_of}
 use Rattle.flows.specs.Flow.{widths}
 use Rattle.jsontext.specs.Reading.{text_of}

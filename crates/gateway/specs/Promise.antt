@@ -1,7 +1,6 @@
 -- What the two public calls promise, and when a file is taken.
-use Rattle.std.specs.Prelude.{Err, Ok, Result, ⊤}
+use Rattle.std.specs.Prelude.{Ok, Result, ℕ, ◌≤◌, ◌≡◌, true, List, length}
 use Rattle.gateway.specs.declared.Reason.{Reason}
-use Rattle.std.specs.Prelude.{ℕ, ◌≤◌, ◌≡◌, true, List, length}
 use Rattle.jsontext.specs.Rfc8259.{Text}
 use Rattle.values.specs.Tree.{tree_of}
 use Rattle.values.specs.Clean.{clean}

@@ -1,7 +1,6 @@
 -- What a stage of a build answers. (Cited by inner functions only.)
-use Rattle.std.specs.Prelude.{Err, Ok, Result}
+use Rattle.std.specs.Prelude.{Ok, Result, ℕ, ◌≡◌, List}
 use Rattle.gateway.specs.declared.Reason.{Reason}
-use Rattle.std.specs.Prelude.{ℕ, ◌≡◌, List}
 use Rattle.flows.specs.Table.{Table}
 use Rattle.stored.specs.Text.{reply_of}
 

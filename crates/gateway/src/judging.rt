@@ -15,10 +15,13 @@ ghost use Rattle.gateway.specs.Answer.{table_for, by_length, by_entries, by_rule
 ghost use Rattle.gateway.specs.Stages.{Answered};
 
 use crate::Reason;
+use builder::Work;
+
+type Reply = [u8; 36864];
 
 // 12, or taken: the table of n rules, written.
-fn by_length(work: &mut [u64], n: usize, reply: &mut [u8]) -> Result<usize, Reason>
-    requires { (length work.old ≡ 16290) × (n ≤ 66) × (length reply.old ≡ 36864) }
+fn by_length(work: &mut Work, n: usize, reply: &mut Reply) -> Result<usize, Reason>
+    requires { n ≤ 66 }
     ensures { Answered (by_length (table_of widths (let_through (rules_of n work.old)))) (table_of widths (let_through (rules_of n work.old))) result reply.new }
 {
     let Some(lines) = builder::build(work, n) else {
@@ -32,11 +35,11 @@ fn by_length(work: &mut [u64], n: usize, reply: &mut [u8]) -> Result<usize, Reas
 fn by_entries(
     file: &[u8],
     site: &[u8],
-    work: &mut [u64],
+    work: &mut Work,
     index: Option<usize>,
-    reply: &mut [u8],
+    reply: &mut Reply,
 ) -> Result<usize, Reason>
-    requires { (judged site.now ≡ Ok tt) × (length work.old ≡ 16290) × (length reply.old ≡ 36864) × Indexed file.now (lists_of (tree_of 16 file.now)) work.old index }
+    requires { (judged site.now ≡ Ok tt) × Indexed file.now (lists_of (tree_of 16 file.now)) work.old index }
     ensures { Answered (by_entries (tree_of 16 file.now) (by_length (table_for file.now site.now))) (table_for file.now site.now) result reply.new }
 {
     let t = reading::read(file, site, work, index);
@@ -53,8 +56,8 @@ fn by_entries(
 }
 
 // 7 to 12.
-fn by_rules(file: &[u8], site: &[u8], work: &mut [u64], reply: &mut [u8]) -> Result<usize, Reason>
-    requires { (judged site.now ≡ Ok tt) × (length work.old ≡ 16290) × (length reply.old ≡ 36864) }
+fn by_rules(file: &[u8], site: &[u8], work: &mut Work, reply: &mut Reply) -> Result<usize, Reason>
+    requires { judged site.now ≡ Ok tt }
     ensures { Answered (by_rules (tree_of 16 file.now) (by_length (table_for file.now site.now))) (table_for file.now site.now) result reply.new }
 {
     if !header::header::is_mud_file(file) {
@@ -68,8 +71,8 @@ fn by_rules(file: &[u8], site: &[u8], work: &mut [u64], reply: &mut [u8]) -> Res
 }
 
 // 4 to 12.
-fn by_file(file: &[u8], site: &[u8], work: &mut [u64], reply: &mut [u8]) -> Result<usize, Reason>
-    requires { (judged site.now ≡ Ok tt) × (length work.old ≡ 16290) × (length reply.old ≡ 36864) }
+fn by_file(file: &[u8], site: &[u8], work: &mut Work, reply: &mut Reply) -> Result<usize, Reason>
+    requires { judged site.now ≡ Ok tt }
     ensures { Answered (by_file file.now site.now) (table_for file.now site.now) result reply.new }
 {
     if file.len() > 32768 {
@@ -79,19 +82,16 @@ fn by_file(file: &[u8], site: &[u8], work: &mut [u64], reply: &mut [u8]) -> Resu
     by_rules(file, site, work, reply)
 }
 
-fn are_sized(reply: usize, work: usize) -> bool
-    ensures { result ≡ sized reply work }
-{
-    reply == 36864 && work == 16290
-}
-
 // 1 to 12.
 pub fn judge(file: &[u8], site: &[u8], work: &mut [u64], reply: &mut [u8]) -> Result<usize, Reason>
     ensures { Answered (answer_of file.now site.now (length reply.old) (length work.old)) (table_for file.now site.now) result reply.new }
 {
-    if !are_sized(reply.len(), work.len()) {
+    let Some(work) = work.as_mut_array() else {
         return Err(Reason::Buffers);
-    }
+    };
+    let Some(reply) = reply.as_mut_array() else {
+        return Err(Reason::Buffers);
+    };
     site::table::judge(site)?;
     by_file(file, site, work, reply)
 }

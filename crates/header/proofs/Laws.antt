@@ -27,8 +27,7 @@ use Rattle.values.specs.Tree.{Json, Elements, no_more, element, elements_after, 
 use Rattle.values.specs.Rules.{must, may}
 use Rattle.values.proofs.Walking.{elements_turn, element_after_done, element_after_wrong, element_after_more}
 use Rattle.values.proofs.Patterns.{text_is, text_not}
-use Rattle.text.specs.Bytes.{between}
-use Rattle.text.specs.Bytes.{is_at}
+use Rattle.text.specs.Bytes.{between, is_at}
 use Rattle.text.specs.Numbers.{number_at, quad_at, then_read}
 use Rattle.text.specs.Networks.{net_of, network_at}
 use Rattle.text.specs.Written.{decimal_by, decimal, quad}
@@ -112,7 +111,7 @@ module _ (b before₀ s : List ℕ) (p : Piece) (n : ℕ) (buf : List ℕ) (c : 
     pub copying_wide : 256 ≤ a → CopiedTo b before₀ buf None
     copying_wide l = refused (let w : all_bytes b ≡ false = rw (left, all_append (take n buf) (a ∷ before (rest_of s p) (bytes_at s)), c.bytes) (unfold all_bytes in rw (le-ltb a 256 l)) in rw w (and-false (leb (length b) (length before₀))))
 
-    pub copying_full : length buf ≤ n → CopiedTo b before₀ buf None
+    copying_full : length buf ≤ n → CopiedTo b before₀ buf None
     copying_full l = refused (let w : leb (length b) (length before₀) ≡ false = lt-leb (length b) (length before₀) (omega (arith, ap length left ∙ length-append (take n buf) (a ∷ before (rest_of s p) (bytes_at s)), length-take-le n buf c.inside, c.inside, c.same)) in rw w)
 
     pub copying_more : a < 256 → n < length buf → {y : ℕ} → y ≡ a → {x : Piece} → x ≡ rest_of s p → Copying b before₀ s x (n + 1) (set buf n y)
@@ -126,7 +125,11 @@ module _ (b before₀ s : List ℕ) (p : Piece) (n : ℕ) (buf : List ℕ) (c : 
           same = rw (length-set) c.same;
         })
 
-pub ruleset copying = (rules, copying_start, copying_end, copying_all, copying_wide, copying_full, copying_more, both_less)
+pub copying_over : (b before₀ s : List ℕ) (p : Piece) (n : ℕ) (buf : List ℕ) → Copying b before₀ s p n buf → {h : Option ℕ} → h ≡ first_of p → length buf ≤ n → is_some h ≡ true → CopiedTo b before₀ buf None
+copying_over b before₀ s p n buf c {h = None} e l q = clash q refl
+copying_over b before₀ s p n buf c {h = Some a} e l q = copying_full b before₀ s p n buf c e refl l
+
+pub ruleset copying = (rules, copying_start, copying_end, copying_all, copying_wide, copying_over, copying_more, both_less)
 
 -- ## URLs and networks that were copied
 module _ (b before₀ after : List ℕ) (r : Option ℕ) (c : CopiedTo b before₀ after r) where
@@ -272,7 +275,8 @@ pub ruleset copied = (rules, copied_in, copied_count, url_copied, url_whole, net
 
 -- ## the header
 pub header_is : (mud : Json) → header_ok mud
-    ≡ ((((must (lookup (ascii "mud-version") mud) (obeys (Integer 1 1)) && must (lookup (ascii "mud-url") mud) (obeys (Spelt Url))) && must (lookup (ascii "last-update") mud) (obeys Text)) && must (lookup (ascii "is-supported") mud) (obeys Boolean))
+    ≡ (((must (lookup (ascii "mud-version") mud) (obeys (Integer 1 1)) && must (lookup (ascii "mud-url") mud) (obeys (Spelt Url)))
+    && (must (lookup (ascii "last-update") mud) (obeys Text) && must (lookup (ascii "is-supported") mud) (obeys Boolean)))
     && may (lookup (ascii "cache-validity") mud) (obeys (Integer 1 168)))
 unfolding header_ok
 header_is mud = simp and_assoc

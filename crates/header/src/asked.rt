@@ -15,7 +15,7 @@ use values::plain;
 use values::walk::{first_item, inner, member, next_element};
 
 // The form of a string.
-#[derive(Clone, Copy)]
+#[derive(Clone, Copy, Debug, PartialEq, Eq)]
 pub enum Form {
     Url,
     Network,
@@ -25,7 +25,8 @@ pub enum Form {
 }
 
 // A value and not a closure: the rules of specs/ name what is asked for, and callers prove by that name.
-#[derive(Clone, Copy)]
+// `Nothing`, of a member that may not stand there, is named by the definition `absent` (entries); its callers write `is_none`.
+#[derive(Clone, Copy, Debug, PartialEq, Eq)]
 pub enum Asked {
     Text,
     Boolean,
@@ -63,11 +64,9 @@ fn is_text(s: &[u8], at: usize, depth: usize, form: Form) -> bool
 fn is_null_array(s: &[u8], at: usize, depth: usize) -> bool
     ensures { result ≡ is_null_array (tree_at depth s.now at) }
 {
-    let Some(j) = first_item(s, at, depth) else {
-        return false;
-    };
     let d = inner(depth);
-    plain::is_null(s, skip(s, j), d) && !matches!(next_element(s, j, d), Ok(Next::More(_)))
+    first_item(s, at, depth).is_some_and(|j| plain::is_null(s, skip(s, j), d)
+        && !matches!(next_element(s, j, d), Ok(Next::More(_))))
 }
 
 // Whether the value at a place is what is asked for.
@@ -85,6 +84,7 @@ pub fn obeys(s: &[u8], at: usize, depth: usize, asked: Asked) -> bool
 }
 
 // Whether something was found that is what is asked for.
+// Two of each: the rules say `must` and `may`, and each promise is by its word.
 pub fn must_obey(s: &[u8], found: Option<usize>, depth: usize, asked: Asked) -> bool
     ensures { result ≡ must (seen (tree_at depth s.now) found) (obeys asked) }
 {

@@ -23,15 +23,13 @@ fn copy(s: &[u8], at: usize, buf: &mut [u8]) -> Option<usize>
         let Some(a) = first(p) else {
             return Some(n);
         };
-        let Ok(b) = u8::try_from(a) else {
-            return None;
-        };
-        buf[n] = b;
+        buf[n] = u8::try_from(a).ok()?;
         p = rest(s, p);
     }
-    match first(p) {
-        None => Some(buf.len()),
-        Some(_) => None,
+    if first(p).is_none() {
+        Some(buf.len())
+    } else {
+        None
     }
 }
 
@@ -39,10 +37,7 @@ pub fn is_url(s: &[u8], at: usize) -> bool
     ensures { result ≡ is_mud_url (bytes_at s.now at) }
 {
     let mut buf = [0u8; 255];
-    match copy(s, at, &mut buf) {
-        Some(n) => site::url::is_mud_url(&buf[..n]),
-        None => false,
-    }
+    copy(s, at, &mut buf).is_some_and(|n| site::url::is_mud_url(&buf[..n]))
 }
 
 // The longest network is `255.255.255.255/32`, eighteen bytes.

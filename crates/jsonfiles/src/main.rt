@@ -11,7 +11,7 @@ use std::{io, str};
 use values::Fault;
 use values::clean::judge;
 
-// The numbers 4 to 6 of document 01, or 0.
+// The numbers 4 to 6 of document 01, or 0: a number, since it is what is printed.
 #[tactic(auto, using(crate::proofs::Laws::answering))]
 fn answer(s: &[u8], area: &mut [u64]) -> u8
     ensures { result ≡ answer_of s.now }

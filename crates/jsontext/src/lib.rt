@@ -14,14 +14,15 @@ pub struct Bad {
     pub at: usize,
 }
 
-// What follows an item of an array or an object: the end of it, or a further item.
+// What follows an item of an array or an object: the end of it, or a further item. A type of its own: `Done` and `More` are the
+// words of the promises (`next_at`), and `ControlFlow` is what `?` goes by.
 #[derive(Clone, Copy, Debug, PartialEq, Eq)]
 pub enum Next {
     Done(usize),
     More(usize),
 }
 
-// What a byte can begin.
+// What a byte can begin. A type, where `value` alone could match on the byte: the definitions `value_at` and `tree_at` (values) go by it.
 #[derive(Clone, Copy, Debug, PartialEq, Eq)]
 pub enum Start {
     Array,

@@ -50,12 +50,8 @@ fn array(s: &[u8], at: usize, depth: usize) -> Result<usize, Bad>
     loop {
         let e = value(s, skip(s, j), depth)?;
         match follow(s, e, b']')? {
-            Next::Done(k) => {
-                return Ok(k);
-            }
-            Next::More(k) => {
-                j = k;
-            }
+            Next::Done(k) => return Ok(k),
+            Next::More(k) => j = k,
         }
     }
 }
@@ -73,12 +69,8 @@ fn object(s: &[u8], at: usize, depth: usize) -> Result<usize, Bad>
         let v = key(s, j)?;
         let e = value(s, skip(s, v), depth)?;
         match follow(s, e, b'}')? {
-            Next::Done(k) => {
-                return Ok(k);
-            }
-            Next::More(k) => {
-                j = k;
-            }
+            Next::Done(k) => return Ok(k),
+            Next::More(k) => j = k,
         }
     }
 }

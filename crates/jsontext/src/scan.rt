@@ -1,4 +1,5 @@
-// Bytes that pass a test, which is lent as a closure. What stands past the end of a text reads as 0, which no test here passes.
+// Bytes that pass a test, which is lent as a closure. What stands past the end of a text reads as 0, so that of a closure that
+// takes 0 nothing is promised.
 #![tactic(auto, unfolding(crate::specs::Reading::one_at))]
 
 ghost use Rattle.std.specs.Prelude.{◌≡◌, ℕ, Bool};

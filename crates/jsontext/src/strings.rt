@@ -6,12 +6,12 @@ ghost use Rattle.jsontext.specs.Reading.{is_hex, is_escape, is_plain, span_at, t
 
 use super::Bad;
 use super::scan::{one, span, times};
-use text::bytes::{byte_at, is_between, is_digit};
+use text::bytes::{byte_at, is_between};
 
 fn is_hex(b: u8) -> bool
     ensures { result ≡ is_hex b }
 {
-    is_digit(b) || is_between(b, b'A', b'F') || is_between(b, b'a', b'f')
+    b.is_ascii_hexdigit()
 }
 
 // A character of one byte that stands for itself.

@@ -4,7 +4,7 @@ use Rattle.flows.specs.declared.Numbers as numbers
 use Rattle.stored.specs.declared.answer.Verdict.{Verdict}
 use Rattle.stored.specs.declared.answer.Verdict.TheVariants.{Accept, Drop}
 use Rattle.stored.specs.declared.answer.Refusal.{Refusal}
-use Rattle.stored.specs.declared.answer.Refusal.TheVariants.{NotTable, NotFlow}
+use Rattle.stored.specs.Stored.{refusal_number}
 use Rattle.gateway.specs.Answer.{answer_number, line_count, answer_of, reply_after, work_after}
 
 -- the paper's number, the line count, and each byte lent
@@ -28,7 +28,6 @@ asked direction protocol opener address remote device =
 
 -- a verdict as one number
 abbrev pub verdict_code : Result Verdict Refusal → ℕ
-verdict_code (Err NotTable) = 13
-verdict_code (Err NotFlow) = 14
+verdict_code (Err why) = refusal_number why
 verdict_code (Ok Accept) = 1
 verdict_code (Ok Drop) = 0

@@ -6,7 +6,7 @@ ghost use Rattle.stored.specs.Stored.{verdict_of};
 ghost use Rattle.kernel.specs.Boundary.{BuildReturns, asked, verdict_code};
 
 use flows::Numbers;
-use stored::answer::{Refusal, Verdict};
+use stored::answer::Verdict;
 
 // The answer's number; the line count goes to `count`.
 #[unsafe(no_mangle)]
@@ -55,8 +55,7 @@ pub extern "C" fn mirokdeul_verdict(
     match gateway::verdict(stored, flow) {
         Ok(Verdict::Accept) => 1,
         Ok(Verdict::Drop) => 0,
-        Err(Refusal::NotTable) => 13,
-        Err(Refusal::NotFlow) => 14,
+        Err(why) => why.into(),
     }
 }
 

@@ -64,19 +64,6 @@ lent s es a b None g = tt
 pub above_lent : (s : List ℕ) (es : Elements) (a : List ℕ) (x : Option ℕ) → Indexed s es a x → {n : ℕ} → Above x (length a) n → (b : List ℕ) → Indexed s es (take n a ++ b) x
 above_lent s es a x g e b = rw (e.is (above_names s es a x g)) (lent s es a b x g)
 
-module _ {x : Option ℕ} (n : ℕ) where
-  pub above_none : x ≡ None → Above x n 0
-  above_none q = record { room = omega arith; is = λ l. rw q }
-
-  module _ {hi : ℕ} (q : x ≡ Some hi) where
-    pub above_end : n < hi → Above x n n
-    above_end m = record { room = omega arith; is = λ l. absurd (let o : hi ≤ n = rw q at l in omega arith) }
-
-    pub above_here : hi ≤ n → Above x n hi
-    above_here m = record { room = m; is = λ l. rw q }
-
-pub ruleset lending = (rules, above_none, above_end, above_here)
-
 -- ## gathering
 pub gathered_start : (s : List ℕ) (es : Elements) (a : List ℕ) → 1555 ≤ length a → Gathered s es a 1555 es
 gathered_start s es a l =

@@ -9,7 +9,7 @@ use Rattle.std.specs.Option.{is_some, is_none}
 use borrow.Author.Rules.{rules}
 use Rattle.text.specs.Ascii.{ascii}
 use Rattle.text.specs.Words.{same_bytes}
-use Rattle.text.proofs.Tests.{chained, by_test}
+use Rattle.text.proofs.Tests.{by_test}
 use Rattle.jsontext.specs.declared.Bad.{Bad}
 use Rattle.jsontext.specs.declared.Next.{Next}
 use Rattle.jsontext.specs.declared.Next.TheVariants.{Done, More}
@@ -22,7 +22,7 @@ use Rattle.values.specs.Tree.{Json, Elements, no_more, element, elements_from, e
 use Rattle.values.specs.Rules.{must, all, text, first_with}
 use Rattle.values.proofs.Walking.{elements_turn, element_after_done, element_after_wrong, element_after_more, element_less}
 use Rattle.values.proofs.Naming.{grown_fits}
-use Rattle.values.proofs.Patterns.{may_none, may_some, text_is, text_not, string_found}
+use Rattle.values.proofs.Patterns.{text_is, text_not, string_found}
 use Rattle.header.specs.Asked.{is_among}
 use Rattle.flows.specs.declared.Direction.{Direction}
 use Rattle.lists.specs.Lists.{is_named, name_of, names_of, all_different, nested_ok, nested, policy_ok, policy_lists, lists_ok, lists_of, has_type, list_named, named_ok, direction_ok, both_ok, policies_ok}
@@ -201,4 +201,4 @@ module _ (s : List ℕ) {i : ℕ} (g : i ≡ span_at is_space s 0) {a : Bool} (e
     unfolding policies_ok tree_of lists_ok
     policies_some q h = rw (← g, ← e, y, f, q) h
 
-pub ruleset listing = (chained, past_is, is_named_none, is_named_other, is_named_is, type_none, type_other, type_is, list_some, nested_items, direction_some, policies_lists, policies_none, policies_some)
+pub ruleset listing = (past_is, is_named_none, is_named_other, is_named_is, type_none, type_other, type_is, list_some, nested_items, direction_some, policies_lists, policies_none, policies_some)

@@ -16,6 +16,9 @@ use values::Entry;
 use values::names::enter;
 use values::walk::{member, next_element};
 
+// Where the names begin: above the networks and the rules (builder).
+pub(crate) const NAMES_FROM: usize = 1555;
+
 // An index is up to where the names stand; without room for all there is none. It goes beside `area` and is no struct with it:
 // the area is lent, and callers are told what it holds after a call (`area.new`), which the struct would have to tell as well.
 
@@ -38,7 +41,7 @@ fn add_list(s: &[u8], at: usize, area: &mut [u64], hi: usize) -> Option<usize>
     if byte_at(s, p) != b'"' {
         return Some(hi);
     }
-    match enter(s, p + 1, k, area, 1555, hi) {
+    match enter(s, p + 1, k, area, NAMES_FROM, hi) {
         Entry::Known => Some(hi),
         Entry::Kept => Some(hi + 1),
         Entry::Full => None,
@@ -51,7 +54,7 @@ fn gather_from(s: &[u8], at: usize, area: &mut [u64]) -> Option<usize>
     ensures { Indexed s.now (elements_from 13 s.now at) area.new result }
 {
     let mut j = at;
-    let mut hi = 1555;
+    let mut hi = NAMES_FROM;
     loop {
         hi = add_list(s, j, area, hi)?;
         let Ok(Next::More(k)) = next_element(s, j, 13) else {
@@ -64,11 +67,11 @@ fn gather_from(s: &[u8], at: usize, area: &mut [u64]) -> Option<usize>
 pub fn gather(s: &[u8], area: &mut [u64]) -> Option<usize>
     ensures { Indexed s.now (lists_of (tree_of 16 s.now)) area.new result }
 {
-    if area.len() < 1555 {
+    if area.len() < NAMES_FROM {
         return None;
     }
     match lists_of(s, skip(s, 0)) {
-        None => Some(1555),
+        None => Some(NAMES_FROM),
         Some(at) => gather_from(s, at, area),
     }
 }

@@ -9,7 +9,7 @@ ghost use Rattle.lists.specs.Lists.{is_named, nested, has_type, list_ok, list_na
 ghost use Rattle.lists.specs.Index.{Indexed};
 
 use super::elements::first_element;
-use super::index::above;
+use super::index::{NAMES_FROM, above};
 use super::names::{is_nested, name_of};
 use text::bytes::byte_at;
 use values::names::find;
@@ -20,10 +20,7 @@ use values::walk::{first_item, inner, member};
 fn is_named(s: &[u8], at: usize, i: usize) -> bool
     ensures { result ≡ is_named (bytes_at s.now i) (tree_at 13 s.now at) }
 {
-    let Some(p) = member(s, at, 13, b"name") else {
-        return false;
-    };
-    byte_at(s, p) == b'"' && same_string(s, p + 1, i)
+    member(s, at, 13, b"name").is_some_and(|p| byte_at(s, p) == b'"' && same_string(s, p + 1, i))
 }
 
 // The list that an element of a policy names, by walking over the lists.
@@ -46,7 +43,7 @@ pub fn list_of(
     ensures { list_named (items_from 13 s.now lists) (tree_at 11 s.now n) ≡ seen (tree_at 13 s.now) result }
 {
     match index {
-        Some(hi) => find(s, name_of(s, n, 11), area, 1555, hi),
+        Some(hi) => find(s, name_of(s, n, 11), area, NAMES_FROM, hi),
         None => walk_to(s, lists, n),
     }
 }
@@ -64,10 +61,7 @@ pub fn nested_at(s: &[u8], at: usize, depth: usize, outer: &[u8], name: &[u8]) -
 pub fn has_type(s: &[u8], at: usize, kind: &[u8]) -> bool
     ensures { result ≡ has_type kind.now (tree_at 13 s.now at) }
 {
-    let Some(p) = member(s, at, 13, b"type") else {
-        return false;
-    };
-    byte_at(s, p) == b'"' && string_is(s, p + 1, kind)
+    member(s, at, 13, b"type").is_some_and(|p| byte_at(s, p) == b'"' && string_is(s, p + 1, kind))
 }
 
 fn is_list(s: &[u8], at: usize, area: &mut [u64]) -> bool
@@ -92,11 +86,9 @@ pub fn names_list(
     ensures value { result ≡ named_ok (items_from 13 s.now lists) (tree_at 11 s.now n) }
     ensures indexed { Indexed s.now (items_from 13 s.now lists) area.new index }
 {
-    match list_of(s, lists, n, area, index) {
-        None => false,
-        Some(at) => {
-            let free = above(index, area.len());
-            is_list(s, at, &mut area[free..])
-        }
-    }
+    let Some(at) = list_of(s, lists, n, area, index) else {
+        return false;
+    };
+    let free = above(index, area.len());
+    is_list(s, at, &mut area[free..])
 }

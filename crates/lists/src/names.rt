@@ -112,10 +112,7 @@ fn is_inner(s: &[u8], at: usize, depth: usize, name: &[u8], area: &mut [u64]) ->
     ensures { result ≡ inner_ok name.now (tree_at depth s.now at) }
 {
     plain::is_object(s, at, depth)
-        && match member(s, at, depth, name) {
-            None => true,
-            Some(p) => is_named_array(s, p, inner(depth), area),
-        }
+        && member(s, at, depth, name).is_none_or(|p| is_named_array(s, p, inner(depth), area))
 }
 
 // An object that may have a member `outer`, which is an object that may have a member `name`, a named array.
@@ -129,8 +126,5 @@ pub fn is_nested(
 ) -> bool
     ensures { result ≡ nested_ok outer.now name.now (tree_at depth s.now at) }
 {
-    match member(s, at, depth, outer) {
-        None => true,
-        Some(p) => is_inner(s, p, inner(depth), name, area),
-    }
+    member(s, at, depth, outer).is_none_or(|p| is_inner(s, p, inner(depth), name, area))
 }

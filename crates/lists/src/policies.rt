@@ -34,10 +34,7 @@ fn is_policy(s: &[u8], at: usize, area: &mut [u64]) -> bool
 fn may_be_policy(s: &[u8], mud: usize, d: Direction, area: &mut [u64]) -> bool
     ensures { result ≡ policy_ok d (tree_at 15 s.now mud) }
 {
-    match policy_of(s, mud, d) {
-        None => true,
-        Some(p) => is_policy(s, p, area),
-    }
+    policy_of(s, mud, d).is_none_or(|p| is_policy(s, p, area))
 }
 
 // The elements of a policy's array, each of which names a list.
@@ -99,6 +96,7 @@ fn is_direction(
     if !may_be_policy(s, mud, d, &mut area[free..]) {
         return false;
     }
+    // A `match`: `is_none_or` was tried, and after a closure that writes nothing is known of what it wrote.
     match policy_lists(s, mud, d) {
         None => true,
         Some(at) => all_name_lists(s, at, lists_of(s, file), area, index),
@@ -132,6 +130,7 @@ pub fn are_policies(s: &[u8], area: &mut [u64], index: Option<usize>) -> bool
     ) {
         return false;
     }
+    // A `match`, as in `is_direction`.
     match member(s, file, 16, b"ietf-mud:mud") {
         None => false,
         Some(mud) => are_both(s, file, mud, area, index),

@@ -38,11 +38,11 @@ module _ (work n : ℕ) {b : Bool} (e : b ≡ sized work n) where
   sized_number h a = rw (← e, h) (built_number a)
 
 -- ## the reply
-pub over_written : {t : Table} {w : List ℕ} {r : Option ℕ} → BuiltIn t w r → r ≡ None → {reply : List ℕ} → Written t reply 513 reply
+pub over_written : {t : Table} {w : List ℕ} {r : Option ℕ} → BuiltIn t w r → r ≡ None → {reply : List ℕ} → Written t reply None reply
 unfolding capped written_over
 over_written {t} {w} {r} b q = let z = lt-leb (length t) 512 (over_of t r b.answer q) in record { number = rw z; bytes = rw z }
 
-pub lines_written : (S : Set) {w : List ℕ} {r : Option ℕ} {k : ℕ} → BuiltIn (table_of widths S) w r → r ≡ Some k → {reply reply' : List ℕ} → reply' ≡ reply_of (lines_in k w) → Written (table_of widths S) reply k reply'
+pub lines_written : (S : Set) {w : List ℕ} {r : Option ℕ} {k : ℕ} → BuiltIn (table_of widths S) w r → r ≡ Some k → {reply reply' : List ℕ} → reply' ≡ reply_of (lines_in k w) → Written (table_of widths S) reply (Some k) reply'
 unfolding capped written_over
 lines_written S b q p =
     let h = built_count S b q in

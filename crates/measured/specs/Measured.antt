@@ -1,5 +1,5 @@
 -- What the measured functions return, and what they leave in a reply.
-use Rattle.std.specs.Prelude.{ℕ, ◌≡◌, Bool, cond, ◌&&◌, Result, Ok, Err, List, eqb, leb, length}
+use Rattle.std.specs.Prelude.{ℕ, ◌≡◌, Bool, cond, ◌&&◌, Option, unwrap_or, Result, Ok, Err, List, eqb, leb, length}
 use Rattle.flows.specs.Table.{Table}
 use Rattle.jsontext.specs.declared.Bad.{Bad}
 use Rattle.stored.specs.Text.{reply_of}
@@ -27,8 +27,8 @@ lines_number work n t = cond (sized work n) (capped t) 1000000
 unfoldable pub written_over : List ℕ → Table → List ℕ
 written_over reply t = cond (leb (length t) 512) (reply_of t) reply
 
-pub record Written (t : Table) (reply : List ℕ) (r : ℕ) (reply' : List ℕ) : Type 0 where
-  pub number : r ≡ capped t
+pub record Written (t : Table) (reply : List ℕ) (r : Option ℕ) (reply' : List ℕ) : Type 0 where
+  pub number : unwrap_or r 513 ≡ capped t
   pub bytes : reply' ≡ written_over reply t
 
 pub record Replied (work n : ℕ) (t : Table) (reply : List ℕ) (r : ℕ) (reply' : List ℕ) : Type 0 where

@@ -9,6 +9,7 @@ ghost use Rattle.builder.specs.Encoding.{rules_of};
 ghost use Rattle.jsontext.specs.Reading.{text_of};
 ghost use Rattle.measured.specs.Measured.{text_number, sized, all_sized, lines_number, Written, Replied};
 
+use builder::Work;
 use jsontext::reader::whole_text;
 
 // 1 for a JSON text that is nested at most 16 deep, else 0.
@@ -26,6 +27,7 @@ fn is_sized(work: usize, n: usize) -> bool
 }
 
 // The number of lines of the table of n rules, 513 for more than 512; 1,000,000 for a buffer or a number of rules of no use.
+// (Numbers for refusals: these are for C.)
 #[unsafe(no_mangle)]
 pub extern "C" fn measured_lines(work: &mut [u64], n: usize) -> usize
     ensures { result ≡ lines_number (length work.old) n (table_of widths (let_through (rules_of n work.old))) }
@@ -33,6 +35,9 @@ pub extern "C" fn measured_lines(work: &mut [u64], n: usize) -> usize
     if !is_sized(work.len(), n) {
         return 1000000;
     }
+    let Some(work) = work.as_mut_array() else {
+        unreachable!()
+    };
     builder::build(work, n).unwrap_or(513)
 }
 
@@ -43,15 +48,13 @@ fn are_sized(reply: usize, work: usize, n: usize) -> bool
 }
 
 // Builds, and writes the lines unless there are more than 512.
-fn build_and_write(work: &mut [u64], n: usize, reply: &mut [u8]) -> usize
-    requires { (length work.old ≡ 16290) × (n ≤ 66) × (length reply.old ≡ 36864) }
+fn build_and_write(work: &mut Work, n: usize, reply: &mut [u8; 36864]) -> Option<usize>
+    requires { n ≤ 66 }
     ensures { Written (table_of widths (let_through (rules_of n work.old))) reply.old result reply.new }
 {
-    let Some(k) = builder::build(work, n) else {
-        return 513;
-    };
+    let k = builder::build(work, n)?;
     reply::write(work, k, reply);
-    k
+    Some(k)
 }
 
 // The same number, and the lines as text; a reply of another size than 36,864 bytes gives 1,000,000 too. `reply` is left alone where no lines
@@ -63,5 +66,11 @@ pub extern "C" fn measured_reply(work: &mut [u64], n: usize, reply: &mut [u8]) -
     if !are_sized(reply.len(), work.len(), n) {
         return 1000000;
     }
-    build_and_write(work, n, reply)
+    let Some(work) = work.as_mut_array() else {
+        unreachable!()
+    };
+    let Some(reply) = reply.as_mut_array() else {
+        unreachable!()
+    };
+    build_and_write(work, n, reply).unwrap_or(513)
 }

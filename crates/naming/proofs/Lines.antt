@@ -1,5 +1,5 @@
 -- Laws of the site's lines.
-use Rattle.std.specs.Prelude.{Err, Ok, Result, ⊤}
+use Rattle.std.specs.Prelude.{Err, Ok, Result, ⊤, Option, Some, None}
 use Prim.Native.Nat.{ℕ, zero, suc, ◌+◌, ◌-◌, ◌≤◌}
 use native.Mathlib.Omega.{arith}
 use mathlib.Core.Path.{◌≡◌, sym, ap, ◌∙◌, subst}
@@ -14,7 +14,6 @@ use Rattle.text.proofs.Tests.{by_test, clash, or_left, or_right}
 use Rattle.site.specs.Line.{line_at}
 use Rattle.site.specs.Site.{item_of, lines, line_feeds, judged}
 use Rattle.site.specs.declared.lines.SiteLine.{SiteLine}
-use Rattle.std.specs.Prelude.{Option, Some, None, Result, Ok, Err, ⊤}
 use Rattle.site.specs.declared.table.Fault.{Fault}
 use Rattle.site.specs.declared.table.Fault.TheVariants.{TooLong}
 use Rattle.site.proofs.Laws.{SoundLine, line_sound, lines_onward, feeds_at}

@@ -1,5 +1,5 @@
 -- Laws of the words, places and masks.
-use Rattle.std.specs.Prelude.{Ok}
+use Rattle.std.specs.Prelude.{Ok, Option, Some, None}
 use Prim.Native.Nat.{ℕ, zero, suc, ◌+◌, ◌-◌, ◌*◌, ◌/◌, ◌%◌, ◌^◌, ◌≤◌, ◌<◌}
 use mir.Syntax.{w64}
 use mir.Val.{Fits}
@@ -21,7 +21,6 @@ use Rattle.site.specs.Line.{line_at}
 use Rattle.site.specs.Site.{lines, judged}
 use Rattle.site.specs.declared.lines.Kind.{Kind}
 use Rattle.site.specs.declared.lines.SiteLine.{SiteLine}
-use Rattle.std.specs.Prelude.{Option, Some, None}
 use Rattle.naming.specs.Named.{names, in_named}
 use Rattle.naming.specs.Masks.{network_word, place_of, lines_to, network_words, PlacesOf, names_at, mask_of, named_mask}
 use Rattle.naming.specs.declared.networks.Place.{Place}
@@ -154,6 +153,11 @@ module _ (named : SiteLine → Bool) (site : List ℕ) (j m : ℕ) (c : Masking 
 the_place : {x y : Place} → Some x ≡ Some y → x ≡ y
 the_place e = cc
 
+-- of a line's place a name is what it is of the line
+pub place_names : (kind : Kind) (test : List ℕ → Bool) (site : List ℕ) (l : SiteLine) → names_at kind test site (place_of l) ≡ names kind test site l
+unfolding names_at names
+place_names kind test site l = refl
+
 -- place j is for line j, if there are so many
 module _ (site : List ℕ) (places : List (Option Place)) (p : PlacesOf site places) (j : ℕ) (h : j < 64) where
   by_line : {A : Type 0} → (drop j (lines site 0) ≡ [] → get_or places j None ≡ None → A) → ((l : SiteLine) (ls : List SiteLine) → drop j (lines site 0) ≡ l ∷ ls → get_or places j None ≡ some_place l → Inside site l → A) → A
@@ -192,9 +196,9 @@ module _ (site : List ℕ) (places : List (Option Place)) (p : PlacesOf site pla
           omega (arith, sum_below)
 
       pub masking_more : Masking (names kind test site) site (j + 1) (m + y)
-      unfolding mask_of names_at names
+      unfolding mask_of
       masking_more = by_place (λ l ls q f' s.
-          let a : b ≡ names kind test site l = f ∙ ap (names_at kind test site) f' in
+          let a : b ≡ names kind test site l = f ∙ ap (names_at kind test site) f' ∙ place_names kind test site l in
           let d : drop (j + 1) (lines site 0) ≡ ls = sym (drop-drop 1 j (lines site 0)) ∙ ap (drop 1) q in
           record { small = rw (add-one j) sum_below; whole = c.whole ∙ rw (q, d, ← a, add-one j, two-pow-succ j, g) (turn b (2 ^ j) (mask_of (map (names kind test site) ls))) })
         where

@@ -1,6 +1,5 @@
 -- The site's networks as words, the places of its names, and names as masks of 64 bits over the networks.
-use Rattle.std.specs.Prelude.{Ok}
-use Rattle.std.specs.Prelude.{ℕ, zero, suc, ◌+◌, ◌*◌, ◌≡◌, List, [], ◌∷◌, map, Bool, ◌&&◌, cond, eqb, Option, Some, None}
+use Rattle.std.specs.Prelude.{Ok, ℕ, zero, suc, ◌+◌, ◌*◌, ◌≡◌, List, [], ◌∷◌, map, Bool, ◌&&◌, cond, eqb, Option, Some, None}
 use Rattle.site.specs.Line.{part}
 use Rattle.site.specs.Site.{lines, judged}
 use Rattle.site.specs.declared.lines.Kind.{Kind}

@@ -8,7 +8,7 @@ use Rattle.site.specs.declared.lines.Kind.{Kind}
 use Rattle.site.specs.declared.lines.Kind.TheVariants.{Host, Class, Mine, Local, Thing}
 use Rattle.site.specs.declared.lines.SiteLine.{SiteLine}
 
--- from 1 on: 0 is for no line
+-- a number for each kind, by which kinds are told apart
 abbrev pub kind_number : Kind → ℕ
 kind_number Host = 1
 kind_number Class = 2

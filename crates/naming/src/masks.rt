@@ -18,7 +18,7 @@ fn bit(on: bool, j: u32) -> u64
     if on { 1u64 << j } else { 0 }
 }
 
-// The lines that are wanted.
+// The lines that are wanted. (A loop of its own: builder's `mask` asks a number of items and tells of each by its number.)
 pub fn mask(text: &[u8], wanted: Wanted, site: &Site) -> u64
     ensures { result ≡ named_mask (names (kind_of wanted) (test_of text.now wanted) site.now) site.now }
 {

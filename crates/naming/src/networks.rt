@@ -9,7 +9,7 @@ use site::lines::{Kind, SiteLine, line_at};
 use std::marker::Model;
 
 // Where the name of a line stands in the site table, and of which kind it is.
-#[derive(Clone, Copy)]
+#[derive(Clone, Copy, Debug, PartialEq, Eq)]
 pub struct Place {
     pub kind: Kind,
     pub name: u16,
@@ -31,7 +31,8 @@ impl<'a> Model for Site<'a> {
     ghost invariant = { λ s. PlacesOf s.text.now s.places.now };
 }
 
-fn word(low: u32, high: u32) -> u64
+// A range as one word; `rules` writes its own ranges so.
+pub fn word(low: u32, high: u32) -> u64
     ensures { result ≡ low * 4294967296 + high }
 {
     u64::from(low) * 4294967296 + u64::from(high)
@@ -56,13 +57,16 @@ pub fn load(site: &[u8], work: &mut [u64], places: &mut [Option<Place>; 64])
 {
     let mut at = 0;
     for i in 0..64 {
-        let Some(l) = line_at(site, at) else {
-            work[i] = 0;
-            places[i] = None;
-            continue;
-        };
-        work[i] = word(l.low, l.high);
-        places[i] = Some(place_of(l));
-        at = l.after;
+        match line_at(site, at) {
+            Some(l) => {
+                work[i] = word(l.low, l.high);
+                places[i] = Some(place_of(l));
+                at = l.after;
+            }
+            None => {
+                work[i] = 0;
+                places[i] = None;
+            }
+        }
     }
 }

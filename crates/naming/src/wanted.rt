@@ -5,6 +5,7 @@ ghost use Rattle.std.specs.Prelude.{◌≡◌, ◌≤◌, length, drop};
 ghost use Rattle.text.specs.Words.{same_bytes};
 ghost use Rattle.values.specs.Decode.{bytes_at, before};
 ghost use Rattle.site.specs.Url.{ends_authority, authority_of};
+ghost use Rattle.naming.specs.Named.{kind_number};
 ghost use Rattle.naming.specs.Masks.{names_at};
 ghost use Rattle.naming.specs.Wanted.{kind_of, test_of};
 
@@ -17,7 +18,7 @@ use values::strings::string_is;
 // By a string of the file (the place of its first character): a host, a class, a thing by its model or by its maker. By the file's
 // URL: its own controllers, and things of the same maker. By nothing: local networks. By a text that is the name itself: a class.
 // It is an enum, not a closure: the promises of `mask` and `is_wanted` name which lines these are, by `kind_of` and `test_of`.
-#[derive(Clone, Copy)]
+#[derive(Clone, Copy, Debug, PartialEq, Eq)]
 pub enum Wanted {
     Host(usize),
     Class(usize),
@@ -27,6 +28,20 @@ pub enum Wanted {
     Model(usize),
     Maker(usize),
     Kin(usize),
+}
+
+// Public, and named by docs/PROMISES.md: it stays, though no function here calls it.
+pub fn kind_number(kind: Kind) -> u64
+    ensures value { result ≡ kind_number kind }
+    ensures upper_bound { result ≤ 5 }
+{
+    match kind {
+        Kind::Host => 1,
+        Kind::Class => 2,
+        Kind::Mine => 3,
+        Kind::Local => 4,
+        Kind::Thing => 5,
+    }
 }
 
 fn kind_of(wanted: Wanted) -> Kind
@@ -44,15 +59,15 @@ fn kind_of(wanted: Wanted) -> Kind
 fn authority(url: &[u8]) -> &[u8]
     ensures { result.now ≡ authority_of url.now }
 {
-    let n = site::url::authority_length(url);
-    if n == 0 { &[] } else { &url[8..8 + n] }
+    url.get(8..8 + site::url::authority_length(url))
+        .unwrap_or(&[])
 }
 
-// Of a decoded character, which may be past 255: site's function of this name is for a byte.
+// Of a decoded character, which may be past 255. Site's function of this name is for a byte and private: shared, it would be no plainer.
 fn ends_authority(a: u32) -> bool
     ensures { result ≡ ends_authority a }
 {
-    a == 0x2f || a == 0x3f || a == 0x23
+    matches!(a, 0x2f | 0x3f | 0x23)
 }
 
 // What is left of a URL after its first eight bytes.
@@ -80,10 +95,7 @@ fn has_authority(file: &[u8], url: usize, w: &[u8]) -> bool
         }
         p = rest(file, p);
     }
-    match first(p) {
-        None => true,
-        Some(a) => ends_authority(a),
-    }
+    first(p).is_none_or(ends_authority)
 }
 
 fn passes(text: &[u8], wanted: Wanted, name: &[u8]) -> bool
@@ -104,5 +116,6 @@ pub fn is_wanted(text: &[u8], wanted: Wanted, site: &[u8], p: Place) -> bool
     requires { (p.name ≤ p.end) × (p.end ≤ length site.now) }
     ensures { result ≡ names_at (kind_of wanted) (test_of text.now wanted) site.now p }
 {
-    p.kind == kind_of(wanted) && passes(text, wanted, &site[p.name as usize..p.end as usize])
+    p.kind == kind_of(wanted)
+        && passes(text, wanted, &site[usize::from(p.name)..usize::from(p.end)])
 }

@@ -25,6 +25,11 @@ use rules::rows::put_rule;
 use values::strings::string_place;
 use values::walk::{member, next_element};
 
+// Where `builder` reads the first rule of a caller, and the words of each.
+const RULES_FROM: usize = 169;
+
+const RULE_LEN: usize = 21;
+
 // What is known of the entries read so far: three facts, none of which says whether another is there. The count is at most 65, which is
 // too many.
 #[derive(Clone, Copy)]
@@ -58,7 +63,7 @@ fn put_entry(work: &mut [u64], k: usize, e: &Entry, to: &Setting)
     ensures { work.new ≡ put_at k (rule_words to.now.direction to.now.site.now (bytes_at e.now.s.now to.now.url) (tree_at 10 e.now.s.now e.now.at)) work.old }
 {
     if k < 64 {
-        put_rule(work, 169 + 21 * k, e, to);
+        put_rule(work, RULES_FROM + RULE_LEN * k, e, to);
     }
 }
 
@@ -189,9 +194,9 @@ fn put_defaults(site: &Site, work: &mut [u64], n: usize)
     ensures { work.new ≡ put_defaults n site.now work.old }
 {
     if n < 65 {
-        let at = 169 + 21 * n;
+        let at = RULES_FROM + RULE_LEN * n;
         put_default(site, work, at, b"urn:ietf:params:mud:dns", 53);
-        put_default(site, work, at + 21, b"urn:ietf:params:mud:ntp", 123);
+        put_default(site, work, at + RULE_LEN, b"urn:ietf:params:mud:ntp", 123);
     }
 }
 

@@ -26,8 +26,8 @@ fn read_line(work: &[u64], i: usize) -> Line
     }
 }
 
-fn put_lines(buf: &mut [u8], work: &[u64], n: usize)
-    requires { (length buf.old ≡ 36864) × (n ≤ 512) × (16290 ≤ length work.now) × Fits (lines_in n work.now) }
+fn put_lines(buf: &mut [u8; 36864], work: &[u64], n: usize)
+    requires { (n ≤ 512) × (16290 ≤ length work.now) × Fits (lines_in n work.now) }
     ensures { buf.new ≡ sets buf.old 0 (table_text (lines_in n work.now)) }
 {
     let mut at = 0;
@@ -37,8 +37,8 @@ fn put_lines(buf: &mut [u8], work: &[u64], n: usize)
 }
 
 // Of the first n lines of the work buffer. proofs/Built.antt says that they are those of the table, and that they fit.
-pub fn write(work: &[u64], n: usize, reply: &mut [u8])
-    requires { (length reply.old ≡ 36864) × (n ≤ 512) × (16290 ≤ length work.now) × Fits (lines_in n work.now) }
+pub fn write(work: &[u64], n: usize, reply: &mut [u8; 36864])
+    requires { (n ≤ 512) × (16290 ≤ length work.now) × Fits (lines_in n work.now) }
     ensures { reply.new ≡ reply_of (lines_in n work.now) }
 {
     reply.fill(0);

@@ -18,7 +18,7 @@ fn default_row(port: u16) -> Row
 {
     Row {
         accepts: true,
-        direction: Between { low: 0, high: 1 },
+        direction: Between::DIRECTIONS,
         protocols: Between::only(17),
         openers: Between::OPENERS,
         networks: Between::ADDRESSES,

@@ -50,10 +50,9 @@ fn put_masks(work: &mut [u64], at: usize, masks: &[Option<u64>]) -> usize
 {
     let mut p = at;
     for m in masks {
-        let Some(x) = m else {
-            continue;
-        };
-        p = put_word(work, p, *x);
+        if let Some(x) = m {
+            p = put_word(work, p, *x);
+        }
     }
     p
 }
@@ -62,10 +61,8 @@ fn put_masks(work: &mut [u64], at: usize, masks: &[Option<u64>]) -> usize
 fn mask_if(s: &[u8], site: &Site, found: Option<usize>, wanted: Wanted) -> Option<u64>
     ensures { option_to_list result ≡ mask_if (seen (tree_at 7 s.now) found) (named_mask (names (kind_of wanted) (test_of s.now wanted) site.now) site.now) }
 {
-    match found {
-        None => None,
-        Some(_) => Some(mask(s, wanted, site)),
-    }
+    found?;
+    Some(mask(s, wanted, site))
 }
 
 // The masks of the members of `ietf-mud:mud`; the last three go by the file's own URL.

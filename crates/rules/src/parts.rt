@@ -13,13 +13,15 @@ use values::plain::integer;
 use values::strings::string_is;
 
 // A range of numbers, both ends in it.
-#[derive(Clone, Copy)]
+#[derive(Clone, Copy, Debug, PartialEq, Eq)]
 pub struct Between {
     pub low: u32,
     pub high: u32,
 }
 
 impl Between {
+    pub const DIRECTIONS: Between = Between { low: 0, high: 1 };
+
     pub const PROTOCOLS: Between = Between { low: 0, high: 255 };
 
     pub const OPENERS: Between = Between { low: 0, high: 1 };
@@ -40,19 +42,16 @@ impl Between {
 fn protocol_or_all(c: Option<u64>) -> Between
     ensures { result ≡ number_or c (between 0 255) }
 {
-    match c {
-        Some(n) if n < 256 => Between::only(n as u32),
-        _ => Between::PROTOCOLS,
+    match c.and_then(|n| u8::try_from(n).ok()) {
+        Some(n) => Between::only(n.into()),
+        None => Between::PROTOCOLS,
     }
 }
 
 fn protocol_in(s: &[u8], found: Option<usize>) -> Between
     ensures { result ≡ protocol_in (seen (tree_at 7 s.now) found) }
 {
-    match found {
-        None => Between::PROTOCOLS,
-        Some(p) => protocol_or_all(integer(s, p, 7)),
-    }
+    protocol_or_all(found.and_then(|p| integer(s, p, 7)))
 }
 
 pub fn protocols_of(m: &Matches) -> Between
@@ -70,13 +69,8 @@ fn opener_in(s: &[u8], found: Option<usize>) -> Between
 {
     match found {
         None => Between::OPENERS,
-        Some(p) => {
-            if byte_at(s, p) == b'"' && string_is(s, p + 1, b"from-device") {
-                Between::only(0)
-            } else {
-                Between::only(1)
-            }
-        }
+        Some(p) if byte_at(s, p) == b'"' && string_is(s, p + 1, b"from-device") => Between::only(0),
+        Some(_) => Between::only(1),
     }
 }
 
@@ -94,15 +88,16 @@ pub fn openers_of(m: &Matches, t: &Tcp) -> Between
 fn network_in(s: &[u8], found: Option<usize>) -> Between
     ensures { result ≡ network_in (seen (tree_at 7 s.now) found) }
 {
-    match found {
-        Some(p) if byte_at(s, p) == b'"' => match strings::network(s, p + 1) {
-            Some((net, _)) => Between {
-                low: net.low,
-                high: net.high,
-            },
-            None => Between::ADDRESSES,
-        },
-        _ => Between::ADDRESSES,
+    if let Some(p) = found
+        && byte_at(s, p) == b'"'
+        && let Some((net, _)) = strings::network(s, p + 1)
+    {
+        Between {
+            low: net.low,
+            high: net.high,
+        }
+    } else {
+        Between::ADDRESSES
     }
 }
 
@@ -112,7 +107,7 @@ pub fn networks_of(m: &Matches, d: Direction) -> Between
     network_in(m.s, sides_of(&m.ipv4, d).network)
 }
 
-// `tcp` or `udp`, whichever is there.
+// `tcp` or `udp`, whichever is there: the ports of a `udp` stand as those of a `tcp`.
 pub fn transport_of<'a>(m: &Matches<'a>) -> Tcp<'a>
     ensures file { result.s.now ≡ m.now.s.now }
     ensures found { transport (seen (tree_at 9 m.now.s.now) m.now.found) ≡ seen (tree_at 8 m.now.s.now) result.found }

@@ -15,7 +15,7 @@ use values::plain::integer;
 use values::strings::string_is;
 
 // Two ranges, one of which must hold the port.
-#[derive(Clone, Copy)]
+#[derive(Clone, Copy, Debug, PartialEq, Eq)]
 pub struct Ports {
     pub low: u16,
     pub high: u16,
@@ -52,10 +52,7 @@ impl Ports {
 fn port_number(c: Option<u64>) -> u16
     ensures { result ≡ port_number c }
 {
-    match c {
-        None => 0,
-        Some(n) => u16::try_from(n).unwrap_or(u16::MAX),
-    }
+    c.map_or(0, |n| u16::try_from(n).unwrap_or(u16::MAX))
 }
 
 fn port_number_at(s: &[u8], at: usize) -> u16

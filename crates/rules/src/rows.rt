@@ -13,20 +13,21 @@ use crate::names::{put_names, put_word, put_words};
 use crate::parts::{Between, networks_of, openers_of, protocols_of, transport_of};
 use crate::ports::{Ports, ports_in};
 use entries::places::{Entry, Matches, Tcp};
-use flows::Direction;
+use flows::{Direction, by_side};
+use naming::networks::word;
 use text::bytes::byte_at;
 use values::strings::string_is;
 use values::walk::member;
 
 // Whose ports they are.
-#[derive(Clone, Copy)]
+#[derive(Clone, Copy, Debug, PartialEq, Eq)]
 pub struct PortSides {
     pub remote: Ports,
     pub device: Ports,
 }
 
 // A range or two for each dimension.
-#[derive(Clone, Copy)]
+#[derive(Clone, Copy, Debug, PartialEq, Eq)]
 pub struct Row {
     pub accepts: bool,
     pub direction: Between,
@@ -36,32 +37,23 @@ pub struct Row {
     pub ports: PortSides,
 }
 
-// "In a from-device list the destination is the remote and the source the device; in a to-device list the reverse."
+// The remote's ports and the device's, by the direction rule.
 fn port_sides(t: &Tcp, d: Direction) -> PortSides
     ensures { result ≡ port_sides d (seen (tree_at 8 t.now.s.now) t.now.found) }
 {
     let source = ports_in(t.s, t.source);
     let destination = ports_in(t.s, t.destination);
-    match d {
-        Direction::FromDevice => PortSides {
-            remote: destination,
-            device: source,
-        },
-        Direction::ToDevice => PortSides {
-            remote: source,
-            device: destination,
-        },
-    }
+    let (remote, device) = by_side(d, source, destination);
+    PortSides { remote, device }
 }
 
 fn is_accepted(e: &Entry) -> bool
     ensures { result ≡ entry_accepts (tree_at 10 e.now.s.now e.now.at) }
 {
     let s = e.s;
-    match e.actions.and_then(|a| member(s, a, 9, b"forwarding")) {
-        None => false,
-        Some(p) => byte_at(s, p) == b'"' && string_is(s, p + 1, b"accept"),
-    }
+    e.actions
+        .and_then(|a| member(s, a, 9, b"forwarding"))
+        .is_some_and(|p| byte_at(s, p) == b'"' && string_is(s, p + 1, b"accept"))
 }
 
 fn only(d: Direction) -> Between
@@ -87,18 +79,12 @@ fn row_of(accepts: bool, m: &Matches, d: Direction) -> Row
 // From 1 to 0: no second range.
 const EMPTY: u64 = 4294967296;
 
-fn range_word(low: u32, high: u32) -> u64
-    ensures { result ≡ low * 4294967296 + high }
-{
-    u64::from(low) * 4294967296 + u64::from(high)
-}
-
 fn port_words(p: Ports) -> [u64; 2]
     ensures { result ≡ ports_words p }
 {
     [
-        range_word(p.low.into(), p.high.into()),
-        range_word(p.other_low.into(), p.other_high.into()),
+        word(p.low.into(), p.high.into()),
+        word(p.other_low.into(), p.other_high.into()),
     ]
 }
 
@@ -110,13 +96,13 @@ fn row_words(row: Row) -> [u64; 13]
     let [device, other_device] = port_words(row.ports.device);
     [
         u64::from(row.accepts),
-        range_word(row.direction.low, row.direction.high),
+        word(row.direction.low, row.direction.high),
         EMPTY,
-        range_word(row.protocols.low, row.protocols.high),
+        word(row.protocols.low, row.protocols.high),
         EMPTY,
-        range_word(row.openers.low, row.openers.high),
+        word(row.openers.low, row.openers.high),
         EMPTY,
-        range_word(row.networks.low, row.networks.high),
+        word(row.networks.low, row.networks.high),
         EMPTY,
         remote,
         other_remote,

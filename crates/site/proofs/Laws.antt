@@ -1,14 +1,15 @@
 -- Laws of the site table's definitions, for the readers of its lines.
-use Prim.Native.Nat.{ℕ, suc, ◌+◌, ◌-◌, ◌≤◌, ◌<◌}
-use native.Mathlib.Nat.{add-zero, zero-add}
-use native.Mathlib.Numerals.{add-one}
+use Prim.Native.Nat.{ℕ, suc, ◌+◌, ◌-◌, ◌^◌, ◌≤◌, ◌<◌}
+use mir.Syntax.{w64}
+use mir.Val.{Fits}
 use native.Mathlib.Omega.{arith}
 use mathlib.Core.Path.{◌≡◌, refl, sym, ap, ◌∙◌, subst}
-use mathlib.Core.Bool.{Bool, true, false, cond}
+use mathlib.Core.Bool.{Bool, true, cond, not}
 use mathlib.Core.List.{List, [], ◌∷◌}
-use lib.ListN.{length, drop, get_or, drop_of_length-le, length-drop}
+use lib.ListN.{length, drop, get_or, length-drop}
 use lib.Seq.{drop-cons}
-use Rattle.std.proofs.lemmas.List.Sums.{sum_by-cons}
+use Rattle.std.specs.List.{prefix_len}
+use Rattle.std.proofs.lemmas.List.Sums.{sum_by-cons, prefix_len-le-length}
 use borrow.Author.Rules.{rules}
 use Rattle.text.specs.Bytes.{between, is_at}
 use Rattle.text.specs.Ascii.{ascii}
@@ -31,58 +32,30 @@ use Rattle.site.specs.declared.lines.Kind.TheVariants.{Host, Class, Mine, Local,
 use Rattle.site.specs.declared.lines.SiteLine.{SiteLine}
 
 -- ## URLs
--- the authority: i - 8 bytes of it are passed
-unfoldable pub authority_from : List ℕ → ℕ → ℕ
-authority_from u i = (i - 8) + length (until_end (drop i u))
+-- the authority's length, as the iterator counts it
+until_length : (xs : List ℕ) → prefix_len (λ b. not (ends_authority b)) xs ≡ length (until_end xs)
+unfolding until_end
+until_length [] = refl
+until_length (b ∷ bs) = by_test (ends_authority b) (λ e. rw e refl) (λ e. rw (e, until_length bs) (omega arith))
 
-module _ (u : List ℕ) where
-  pub authority_start : length (authority_of u) ≡ authority_from u 8
-  unfolding authority_of authority_from
-  authority_start = sym (zero-add (length (until_end (drop 8 u))))
-
-  module _ (i : ℕ) (e : length (authority_of u) ≡ authority_from u i) where
-    pub authority_end : length u ≤ i → i - 8 ≡ length (authority_of u)
-    unfolding authority_from until_end
-    authority_end h = sym (e ∙ rw (drop_of_length-le u h) (add-zero (i - 8)))
-
-    module _ (h : i < length u) (b : Bool) (t : b ≡ ends_authority (get_or u i 0)) where
-      pub authority_stop : b ≡ true → i - 8 ≡ length (authority_of u)
-      unfolding authority_from until_end
-      authority_stop q = sym (e ∙ rw (drop-cons u i 0 h, ← t, q) (add-zero (i - 8)))
-
-      pub authority_more : 8 ≤ i → b ≡ false → length (authority_of u) ≡ authority_from u (i + 1)
-      unfolding authority_from until_end
-      authority_more k q = e ∙ rw (drop-cons u i 0 h, ← t, q, add-one i) (omega arith)
+pub authority_counted : (u : List ℕ) {t : List ℕ} → t ≡ drop 8 u → prefix_len (λ b. not (ends_authority b)) t ≡ length (authority_of u)
+unfolding authority_of
+authority_counted u e = rw e (until_length (drop 8 u))
 
 -- ## lines
 pub word_room : (w s : List ℕ) (at : ℕ) (b : Bool) → b ≡ word_at w s at → b ≡ true → at + length w < length s
 unfolding word_at
 word_room w s at b e y = at_inside s (at + length w) 0x09 (and_right (has_at s at w) _ (sym e ∙ y))
 
--- a name, of which the bytes up to i are passed
-module _ (s : List ℕ) (at i : ℕ) (e : at + name_length (drop at s) ≡ i + name_length (drop i s)) where
-  pub name_stop : length s ≤ i → i ≡ at + name_length (drop at s)
-  unfolding name_length
-  name_stop h = sym (e ∙ rw (drop_of_length-le s h) (add-zero i))
-
-  module _ (h : i < length s) (b : Bool) (t : b ≡ between 0x21 0x7E (get_or s i 0)) where
-    pub name_other : b ≡ false → i ≡ at + name_length (drop at s)
-    unfolding name_length
-    name_other n = sym (e ∙ rw (drop-cons s i 0 h, ← t, n) (add-zero i))
-
-    pub name_more : b ≡ true → at + name_length (drop at s) ≡ (i + 1) + name_length (drop (i + 1) s)
-    unfolding name_length
-    name_more n = e ∙ rw (drop-cons s i 0 h, ← t, n, add-one i) (omega arith)
+-- where a name ends is a place
+pub name_fits : (s : List ℕ) (at n : ℕ) {t : List ℕ} → Fits w64 at → length s < 2 ^ 64 → t ≡ drop at s → n ≡ name_length t → Fits w64 (at + n)
+name_fits s at n f l e q =
+    let k : n ≡ name_length (drop at s) = q ∙ ap name_length e in
+    omega (arith, prefix_len-le-length (between 0x21 0x7E) (drop at s), length-drop at s)
 
 -- there is room after a byte that was found
 pub room : (s : List ℕ) (at b : ℕ) (a : Bool) → a ≡ is_at s at b → a ≡ true → at + 1 ≤ length s
 room s at b a h y = omega (arith, at_inside s at b (sym h ∙ y))
-
--- a line
-pub name_in : (xs : List ℕ) → name_length xs ≤ length xs
-unfolding name_length
-name_in [] = omega arith
-name_in (b ∷ bs) = by_test (between 0x21 0x7E b) (λ e. rw e (omega (arith, name_in bs))) (λ e. rw e (omega arith))
 
 -- LF bytes from a place on
 pub feeds_at : (s : List ℕ) (j : ℕ) → j < length s → line_feeds (drop j s) ≡ cond (eqb (get_or s j 0) 0x0A) 1 0 + line_feeds (drop (suc j) s)
@@ -108,7 +81,7 @@ kind_sound s at =
 pub name_ends_in : (s : List ℕ) (at : ℕ) (r : Option (Kind × ℕ)) → r ≡ kind_at s at → (kind : Kind) (from : ℕ) → r ≡ Some (kind, from) → (end : ℕ) → end ≡ from + name_length (drop from s) → end ≤ length s
 name_ends_in s at r h kind from n end e =
     let k : from ≤ length s = (subst (SoundKind s at) (sym h ∙ n) (kind_sound s at)).1 in
-    omega (arith, name_in (drop from s), length-drop from s)
+    omega (arith, prefix_len-le-length (between 0x21 0x7E) (drop from s), length-drop from s)
 
 -- a line lies behind its start, within the text; so does its name; its network's ends are addresses; and its last byte is an LF
 abbrev pub SoundLine : List ℕ → ℕ → Option SiteLine → Type 0
@@ -157,4 +130,4 @@ module _ (s : List ℕ) (at : ℕ) (r : Option SiteLine) (h : r ≡ line_at s at
     pub stop_less : length s - l.after < length s - at
     stop_less = let w : SoundLine s at (Some l) = subst (SoundLine s at) (sym h ∙ n) (line_sound s at) in omega arith
 
-pub ruleset lining = (rules, authority_start, authority_end, authority_stop, authority_more, name_stop, name_other, name_more, stop_here, stop_further, stop_less, word_room, room, name_ends_in, name_in)
+pub ruleset lining = (rules, authority_counted, name_fits, stop_here, stop_further, stop_less, word_room, room, name_ends_in)

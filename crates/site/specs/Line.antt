@@ -1,5 +1,6 @@
 -- A line of the site table (document 01, 'Site table'): "kind, tab, name, tab, network, LF".
-use Rattle.std.specs.Prelude.{Option, Some, None, ℕ, ◌+◌, ◌-◌, List, [], ◌∷◌, Bool, true, ◌&&◌, cond, length, take, drop, leb, ltb}
+use Rattle.std.specs.Prelude.{Option, Some, None, ℕ, ◌+◌, ◌-◌, List, Bool, true, ◌&&◌, cond, length, take, drop, leb, ltb}
+use Rattle.std.specs.List.{prefix_len}
 use Rattle.text.specs.Bytes.{between, is_at}
 use Rattle.text.specs.Ascii.{ascii}
 use Rattle.text.specs.Words.{has_at, same_bytes}
@@ -32,9 +33,8 @@ suits Local name = same_bytes name (ascii "-")
 suits Thing name = is_mud_url name
 
 -- how many of the first bytes can stand in a name
-unfoldable pub name_length : List ℕ → ℕ
-name_length [] = 0
-name_length (b ∷ bs) = cond (between 0x21 0x7E b) (1 + name_length bs) 0
+abbrev pub name_length : List ℕ → ℕ
+name_length bs = prefix_len (between 0x21 0x7E) bs
 
 -- "A name is 1 to 255 bytes from 0x21 to 0x7E"
 unfoldable pub name_ok : Kind → List ℕ → Bool

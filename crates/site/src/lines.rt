@@ -1,11 +1,11 @@
 // One line of the site table.
-#![tactic(auto, using(crate::proofs::Laws::lining), unfolding(crate::specs::Line::word_at, crate::specs::Line::kind_at, crate::specs::Line::suits, crate::specs::Line::name_ok, crate::specs::Line::rest_at, crate::specs::Line::line_at))]
+#![tactic(auto, using(crate::proofs::Laws::lining), unfolding(text::specs::Bytes::between, crate::specs::Line::word_at, crate::specs::Line::kind_at, crate::specs::Line::suits, crate::specs::Line::name_ok, crate::specs::Line::rest_at, crate::specs::Line::line_at))]
 
 ghost use Rattle.std.specs.Prelude.{◌≡◌, ◌+◌, drop};
 ghost use Rattle.site.specs.Line.{word_at, kind_at, suits, name_length, name_ok, rest_at, line_at};
 
 use crate::url::is_mud_url;
-use text::bytes::{is_at, is_between};
+use text::bytes::{from, is_at};
 use text::networks::network;
 use text::words;
 
@@ -19,7 +19,7 @@ pub enum Kind {
 }
 
 // The name stands from `name` up to `end`; the next line begins at `after`.
-#[derive(Clone, Copy)]
+#[derive(Clone, Copy, Debug, PartialEq, Eq)]
 pub struct SiteLine {
     pub kind: Kind,
     pub name: usize,
@@ -54,15 +54,17 @@ fn kind_at(s: &[u8], at: usize) -> Option<(Kind, usize)>
     }
 }
 
+// How many of the first bytes can stand in a name.
+fn name_length(s: &[u8]) -> usize
+    ensures { result ≡ name_length s.now }
+{
+    s.iter().take_while(|b| b.is_ascii_graphic()).count()
+}
+
 fn name_end(s: &[u8], at: usize) -> usize
     ensures { result ≡ at + name_length (drop at s.now) }
 {
-    for i in at..s.len() {
-        if !is_between(s[i], 0x21, 0x7e) {
-            return i;
-        }
-    }
-    at.max(s.len())
+    at + name_length(from(s, at))
 }
 
 fn suits_kind(kind: Kind, name: &[u8]) -> bool

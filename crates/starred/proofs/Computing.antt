@@ -1,6 +1,5 @@
 -- The document's starred cases, from bytes to bytes: what one computed test has to show. Assumes nothing.
-use Rattle.std.specs.Prelude.{Err, Ok, Result, ⊤}
-use Rattle.gateway.specs.declared.Reason.{Reason}
+use Rattle.std.specs.Prelude.{Ok}
 use Prim.Native.Nat.{ℕ, zero, suc, ◌-◌, ◌<◌}
 use mathlib.Core.Path.{◌≡◌, refl, sym, ap, ◌∙◌}
 use mathlib.Core.Bool.{Bool, true, false, not, ◌&&◌}

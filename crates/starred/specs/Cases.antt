@@ -1,8 +1,6 @@
 -- THE STARRED CASES of document 01, 'On both sides of the line', byte for byte: a file, a site table, the line count and the lines.
 -- proofs/Cases.antt proves them.
-use Rattle.std.specs.Prelude.{Err, Ok, Result}
-use Rattle.gateway.specs.declared.Reason.{Reason}
-use Rattle.std.specs.Prelude.{ℕ, ◌-◌, ◌≡◌, List, [], ◌∷◌, ◌++◌, length, replicate}
+use Rattle.std.specs.Prelude.{Ok, ℕ, ◌-◌, ◌≡◌, List, [], ◌∷◌, ◌++◌, length, replicate}
 use Rattle.text.specs.Ascii.{ascii}
 use Rattle.gateway.specs.Answer.{answer_of, reply_after}
 

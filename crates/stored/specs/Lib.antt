@@ -2,6 +2,7 @@ pub mod Chunks
 pub mod Text
 pub mod Words
 pub mod Line
+pub mod Reads
 pub mod Stored
 pub mod Groups
 pub mod Marks

@@ -1,5 +1,5 @@
 -- A line of a stored table, read at a place (document 01, 'The table of a set of flows').
-use Rattle.std.specs.Prelude.{ℕ, ◌/◌, ◌%◌, ◌<◌, ◌≡◌, List, [], ◌∷◌, Bool, cond, leb, Option, Some, None}
+use Rattle.std.specs.Prelude.{ℕ, ◌/◌, ◌%◌, List, [], ◌∷◌, Bool, cond, leb, Option, Some, None}
 use Rattle.text.specs.Numbers.{then_read, closed_at, closed_quad_at}
 use Rattle.flows.specs.Table.{Line}
 use Rattle.flows.specs.Canonical.{flow_ends}
@@ -13,10 +13,6 @@ ends_of lo hi at = cond (leb lo hi) (Some (word_of lo hi, at)) None
 -- `low-high` and the byte that closes it, each end as r reads it with the byte after it at a place
 unfoldable pub pair_at : (ℕ → ℕ → Option (ℕ × ℕ)) → ℕ → ℕ → Option (ℕ × ℕ)
 pair_at r close at = then_read (r 0x2D at) (λ a i. then_read (r close i) (λ b j. ends_of a b j))
-
--- a reader answers what r says, of the byte that closes and the place
-pub record Reader (post : ℕ → ℕ → Option (ℕ × ℕ) → Type 0) (r : ℕ → ℕ → Option (ℕ × ℕ)) : Type 0 where
-  pub reads : (at close : ℕ) → close < 256 → (x : Option (ℕ × ℕ)) → post at close x → x ≡ r close at
 
 -- of numbers to max
 abbrev pub range_at : ℕ → ℕ → List ℕ → ℕ → Option (ℕ × ℕ)

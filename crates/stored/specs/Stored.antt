@@ -38,8 +38,12 @@ unfoldable pub verdict_of : List ℕ → numbers.Numbers → Result Verdict Refu
 verdict_of s f =
     cond (stored_of s) (cond (is_flow (point_of f)) (Ok (cond (in_table (lines s 0) (point_of f)) Accept Drop)) (Err NotFlow)) (Err NotTable)
 
+-- the numbers of the refusals
+abbrev pub refusal_number : Refusal → ℕ
+refusal_number NotTable = 13
+refusal_number NotFlow = 14
+
 -- the answer's number: 13, 14, or 0 where the question is taken and the answer is accept or drop
 abbrev pub verdict_number : Result Verdict Refusal → ℕ
-verdict_number (Err NotTable) = 13
-verdict_number (Err NotFlow) = 14
+verdict_number (Err why) = refusal_number why
 verdict_number (Ok v) = 0

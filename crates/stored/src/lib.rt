@@ -7,3 +7,6 @@ pub mod groups;
 pub mod lines;
 pub mod verdict;
 pub mod write;
+
+// A range is one word, low * BASE + high.
+const BASE: u64 = 4294967296;

@@ -2,12 +2,13 @@
 #![tactic(auto, using(crate::proofs::BitLaws::telling), unfolding(crate::specs::Line::ends_of, crate::specs::Line::pair_at, crate::specs::Line::fields_at, crate::specs::Line::keep_flows, crate::specs::Line::line_at, flows::specs::Canonical::flow_ends))]
 
 ghost use Rattle.std.specs.Prelude.{◌≡◌, ℕ, Option, ◌&&◌, ◌/◌, ◌%◌, eqb};
-ghost use Rattle.stored.specs.Line.{ends_of, pair_at, Reader, range_at, quads_at, flows_of, line_at, words};
+ghost use Rattle.stored.specs.Line.{ends_of, pair_at, range_at, quads_at, flows_of, line_at, words};
+ghost use Rattle.stored.specs.Reads.{Reader};
 
-use crate::chunks;
+use crate::BASE;
 use text::numbers;
 
-// A line: a word for each range, low * 2^32 + high. (One word and no struct of two halves: it is returned and stored as a whole.)
+// A line: a word for each range, low * BASE + high. (One word and no struct of two halves: it is returned and stored as a whole.)
 #[derive(Clone, Copy, Default)]
 pub struct Line {
     pub direction: u64,
@@ -39,7 +40,7 @@ fn in_order(low: u32, high: u32, at: usize) -> Option<(u64, usize)>
     ensures { result ≡ ends_of low high at }
 {
     if low <= high {
-        Some((low as u64 * 4294967296 + high as u64, at))
+        Some((u64::from(low) * BASE + u64::from(high), at))
     } else {
         None
     }
@@ -73,18 +74,19 @@ fn quads(s: &[u8], at: usize, close: u8) -> Option<(u64, usize)>
     pair(at, close, |i, c| numbers::closed_quad(s, i, c))
 }
 
-// The same of numbers to 1 and a tab: `0-0`, `0-1` or `1-1`, told by four bytes at once.
+// The same of numbers to 1 and a tab, told by four bytes at once.
 fn bits(s: &[u8], at: usize) -> Option<(u64, usize)>
     ensures { result ≡ range_at 1 0x09 s.now at }
 {
-    if s.len() <= at || s.len() - at < 4 {
-        return None;
-    }
-    match chunks::four(s, at) {
-        0x09302D30 => Some((0, at + 4)),
-        0x09312D30 => Some((1, at + 4)),
-        0x09312D31 => Some((4294967297, at + 4)),
-        _ => None,
+    let b = s.get(at..)?.first_chunk::<4>()?;
+    if b == b"0-0\t" {
+        Some((0, at + 4))
+    } else if b == b"0-1\t" {
+        Some((1, at + 4))
+    } else if b == b"1-1\t" {
+        Some((BASE + 1, at + 4))
+    } else {
+        None
     }
 }
 
@@ -92,7 +94,7 @@ fn bits(s: &[u8], at: usize) -> Option<(u64, usize)>
 fn only(x: u64, k: u64) -> bool
     ensures { result ≡ (eqb (x / 4294967296) k && eqb (x % 4294967296) k) }
 {
-    x / 4294967296 == k && x % 4294967296 == k
+    x / BASE == k && x % BASE == k
 }
 
 // Whether the line has flows only.
@@ -100,8 +102,8 @@ fn flows_only(l: Line) -> bool
     ensures { result ≡ flows_of l }
 {
     let tcp = only(l.protocol, 6);
-    (tcp || l.opener % 4294967296 == 0)
-        && (tcp || only(l.protocol, 17) || l.remote % 4294967296 == 0 && l.device % 4294967296 == 0)
+    (tcp || l.opener % BASE == 0)
+        && (tcp || only(l.protocol, 17) || l.remote % BASE == 0 && l.device % BASE == 0)
 }
 
 // The line at a place, if it has flows only, and the place after it.

@@ -10,7 +10,7 @@ ghost use Rattle.stored.specs.Marks.{Related, AllGathered};
 
 use crate::answer::{Refusal, Verdict};
 use crate::lines::Line;
-use crate::{groups, lines};
+use crate::{BASE, groups, lines};
 
 // How many lines have marks, where the lines of the text end, and whether a line holds the flow.
 #[derive(Clone, Copy)]
@@ -23,19 +23,19 @@ pub struct Gathered {
 fn is_in(n: u64, x: u64) -> bool
     ensures { result ≡ in_range (x / 4294967296) (x % 4294967296) n }
 {
-    x / 4294967296 <= n && n <= x % 4294967296
+    x / BASE <= n && n <= x % BASE
 }
 
 #[tactic(auto, unfolding(crate::specs::Line::ranges, flows::specs::Table::in_line))]
 fn holds(l: Line, f: flows::Numbers) -> bool
     ensures { result ≡ in_line (ranges l) (point_of f) }
 {
-    is_in(f.direction as u64, l.direction)
-        && is_in(f.protocol.0 as u64, l.protocol)
-        && is_in(f.opener as u64, l.opener)
-        && is_in(f.address.0 as u64, l.address)
-        && is_in(f.remote.0 as u64, l.remote)
-        && is_in(f.device.0 as u64, l.device)
+    is_in(f.direction.into(), l.direction)
+        && is_in(f.protocol.0.into(), l.protocol)
+        && is_in(f.opener.into(), l.opener)
+        && is_in(f.address.0.into(), l.address)
+        && is_in(f.remote.0.into(), l.remote)
+        && is_in(f.device.0.into(), l.device)
 }
 
 // The mark of a line that ends at a place, after the line `before`.
@@ -86,7 +86,7 @@ fn bits_in(s: &[u8]) -> u8
 fn zeros(s: &[u8], at: usize) -> bool
     ensures { result ≡ all_zero (drop at s.now) }
 {
-    s.len() <= at || bits_in(&s[at..]) == 0
+    bits_in(s.get(at..).unwrap_or(&[])) == 0
 }
 
 // 13, then 14, or accept or drop: the answers in the order of their numbers.

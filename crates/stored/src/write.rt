@@ -7,6 +7,7 @@ ghost use Rattle.stored.specs.Line.{ranges};
 ghost use Rattle.stored.specs.Text.{line_text};
 ghost use Rattle.stored.specs.Writing.{range_parts, quad_parts};
 
+use crate::BASE;
 use crate::lines::Line;
 use text::written;
 
@@ -15,9 +16,9 @@ fn put_range(buf: &mut [u8], at: usize, x: u64, close: u8) -> usize
     requires { at + length (range_parts close x) ≤ length buf.old }
     ensures { Put buf.old at (range_parts close x) result buf.new }
 {
-    let p = written::put_decimal(buf, at, (x / 4294967296) as u32);
+    let p = written::put_decimal(buf, at, (x / BASE) as u32);
     let q = written::put_byte(buf, p, b'-');
-    let r = written::put_decimal(buf, q, (x % 4294967296) as u32);
+    let r = written::put_decimal(buf, q, (x % BASE) as u32);
     written::put_byte(buf, r, close)
 }
 
@@ -26,9 +27,9 @@ fn put_quads(buf: &mut [u8], at: usize, x: u64, close: u8) -> usize
     requires { at + length (quad_parts close x) ≤ length buf.old }
     ensures { Put buf.old at (quad_parts close x) result buf.new }
 {
-    let p = written::put_quad(buf, at, (x / 4294967296) as u32);
+    let p = written::put_quad(buf, at, (x / BASE) as u32);
     let q = written::put_byte(buf, p, b'-');
-    let r = written::put_quad(buf, q, (x % 4294967296) as u32);
+    let r = written::put_quad(buf, q, (x % BASE) as u32);
     written::put_byte(buf, r, close)
 }
 

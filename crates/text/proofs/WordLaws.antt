@@ -1,13 +1,11 @@
 -- Laws of `specs/Words.antt`. Assumes nothing.
-use Prim.Native.Nat.{ℕ, suc, ◌-◌, ◌≤◌, ◌<◌}
+use Prim.Native.Nat.{ℕ}
 use mathlib.Core.Path.{◌≡◌, refl, sym, ◌∙◌}
 use mathlib.Core.Logic.{◌↔◌}
 use mathlib.Core.List.{List, [], ◌∷◌}
 use mathlib.Core.Bool.{true, false}
-use native.Mathlib.Omega.{arith}
 use lib.Dec.{eqb}
-use lib.ListN.{length, drop, take, drop_of_length-le, length-drop}
-use Rattle.std.proofs.lemmas.List.{take_all}
+use lib.ListN.{length, drop, take}
 use lib.Pointwise.{pointwise}
 use borrow.Author.Rules.{rules}
 use borrow.Author.Tests.{eqb-true, eqb-false, eq-eqb, ne_eqb}
@@ -31,11 +29,7 @@ same_refl (x ∷ a) = rw (eq-eqb x x refl) (same_refl a)
 pub same_iff : (a b : List ℕ) → same_bytes a b ≡ true ↔ a ≡ b
 same_iff a b = (same_equal a b, λ e. rw e (same_refl b))
 
--- ## the steps of `begins`
-starts_none : (w : List ℕ) → eqb (length w) 0 ≡ starts w []
-starts_none [] = refl
-starts_none (x ∷ w) = ne_eqb (suc (length w)) 0 (λ (e : suc (length w) ≡ 0). omega arith)
-
+-- ## `begins`
 eqb_swap : (x y : ℕ) → eqb x y ≡ eqb y x
 eqb_swap x y =
     by_test (eqb x y)
@@ -47,14 +41,9 @@ starts_is [] s = refl
 starts_is (x ∷ w) [] = refl
 starts_is (x ∷ w) (y ∷ s) = rw (eqb_swap x y, starts_is w s)
 
-module _ (s : List ℕ) (at : ℕ) (w : List ℕ) where
-  pub begins_past : length s < at → eqb (length w) 0 ≡ has_at s at w
-  unfolding has_at
-  begins_past h = let g : length s ≤ at = omega arith in rw (drop_of_length-le s g) (starts_none w)
+-- what `starts_with` says of the bytes from a place on
+pub begins_here : (s : List ℕ) (at : ℕ) (w : List ℕ) {t : List ℕ} → t ≡ drop at s → pointwise eqb w (take (length w) t) ≡ has_at s at w
+unfolding has_at
+begins_here s at w e = rw e (starts_is w (drop at s))
 
-  -- what `starts_with` says of the slice from there to the end
-  pub begins_here : pointwise eqb w (take (length w) (take (length s - at) (drop at s))) ≡ has_at s at w
-  unfolding has_at
-  begins_here = let l : length (drop at s) ≤ length s - at = omega (arith, length-drop at s) in rw (take_all _ (drop at s) l) (starts_is w (drop at s))
-
-pub ruleset comparing = (rules, begins_past, begins_here)
+pub ruleset comparing = (rules, begins_here)

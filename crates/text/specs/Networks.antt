@@ -1,9 +1,8 @@
 -- Networks in a text (document 01, 'Site table': "a dotted quad with or without `/0` to `/32`, no number written with extra
 -- zeros in front; without means /32. Host bits are cleared").
-use Rattle.std.specs.Prelude.{ℕ, ◌+◌, ◌-◌, ◌%◌, ◌^◌, List, Bool, true, false, cond}
+use Rattle.std.specs.Prelude.{ℕ, ◌+◌, ◌-◌, ◌%◌, ◌^◌, List, Bool, true, false, cond, Option, Some}
 use Rattle.text.specs.Bytes.{is_at}
 use Rattle.text.specs.Numbers.{number_at, quad_at, then_read}
-use Rattle.std.specs.Prelude.{Option, Some}
 use Rattle.text.specs.declared.networks.Net.{Net}
 
 -- how many addresses a network of n bits has

@@ -1,7 +1,6 @@
 -- Decimal numbers and dotted quads in a text, none with a zero too many in front.
-use Rattle.std.specs.Prelude.{ℕ, ◌+◌, ◌*◌, ◌-◌, List, [], ◌∷◌, cond, drop, leb, eqb}
+use Rattle.std.specs.Prelude.{ℕ, ◌+◌, ◌*◌, ◌-◌, List, [], ◌∷◌, cond, drop, leb, eqb, Option, Some, None}
 use Rattle.text.specs.Bytes.{byte_at, is_at, is_digit}
-use Rattle.std.specs.Prelude.{Option, Some, None}
 
 -- v so far, with the digits that follow in xs, from place i on; at most max
 unfoldable pub digits_from : ℕ → ℕ → List ℕ → ℕ → Option (ℕ × ℕ)

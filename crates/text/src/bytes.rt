@@ -1,7 +1,7 @@
 // Single bytes of a text.
 #![tactic(auto, unfolding(crate::specs::Bytes::is_at, crate::specs::Bytes::between))]
 
-ghost use Rattle.std.specs.Prelude.{◌≡◌};
+ghost use Rattle.std.specs.Prelude.{◌≡◌, drop};
 ghost use Rattle.text.specs.Bytes.{byte_at, is_at, between, is_digit};
 
 // The byte at a place, and 0 past the end: a reader then needs no test of its own for the end.
@@ -9,6 +9,13 @@ pub fn byte_at(s: &[u8], at: usize) -> u8
     ensures { result ≡ byte_at s.now at }
 {
     if at < s.len() { s[at] } else { 0 }
+}
+
+// The bytes from a place on, and none past the end.
+pub fn from(s: &[u8], at: usize) -> &[u8]
+    ensures { result.now ≡ drop at s.now }
+{
+    s.get(at..).unwrap_or(&[])
 }
 
 // Whether `b` stands at a place: past the end nothing does, not even 0.

@@ -6,8 +6,8 @@ ghost use Rattle.text.specs.Networks.{size_of, net_of, network_at};
 
 use crate::{bytes, numbers};
 
-// The first and the last address, and whether a length was given.
-#[derive(Clone, Copy)]
+// The first and the last address, and whether a length was given: a length of 32 may be given or not.
+#[derive(Clone, Copy, Debug, PartialEq, Eq)]
 pub struct Net {
     pub low: u32,
     pub high: u32,
@@ -19,8 +19,7 @@ fn size(length: u32) -> u64
     requires { length ≤ 32 }
     ensures { result ≡ size_of length }
 {
-    let one: u64 = 1;
-    one << (32 - length)
+    1u64 << (32 - length)
 }
 
 // The network of `length` bits around an address.
@@ -28,7 +27,7 @@ fn around(address: u32, length: u32, given: bool) -> Net
     requires { length ≤ 32 }
     ensures { result ≡ net_of length address given }
 {
-    let a = address as u64;
+    let a = u64::from(address);
     let n = size(length);
     let low = a - a % n;
     Net {

@@ -11,7 +11,7 @@ fn value(b: u8) -> u64
     requires { 0x30 ≤ b }
     ensures { result ≡ b - 0x30 }
 {
-    (b - b'0') as u64
+    u64::from(b - b'0')
 }
 
 // The decimal number at a place, of at most `max` and without a zero in front, and the place after it. It stops at the first
@@ -32,7 +32,7 @@ pub fn number(s: &[u8], at: usize, max: u32) -> Option<(u32, usize)>
     let mut v = value(b);
     // past the end stands no digit: the last turn returns
     for i in at + 1..=s.len() {
-        if v > max as u64 {
+        if v > u64::from(max) {
             return None;
         }
         let c = bytes::byte_at(s, i);

@@ -4,14 +4,13 @@
 ghost use Rattle.std.specs.Prelude.{◌≡◌};
 ghost use Rattle.text.specs.Words.{has_at, same_bytes};
 
+use crate::bytes::from;
+
 // Whether `word` stands in `s` at a place.
 pub fn begins(s: &[u8], at: usize, word: &[u8]) -> bool
     ensures { result ≡ has_at s.now at word.now }
 {
-    if s.len() < at {
-        return word.is_empty();
-    }
-    s[at..].starts_with(word)
+    from(s, at).starts_with(word)
 }
 
 // Whether two texts are the same, byte for byte.

@@ -22,11 +22,11 @@ use Rattle.jsontext.specs.Reading.{span_at}
 use Rattle.jsontext.proofs.Complete.{span_more, span_stop, span_end}
 use Rattle.values.specs.declared.Piece.{Piece}
 use Rattle.values.specs.declared.Piece.TheVariants.{Stop, One, Two, Three, Four}
-use Rattle.values.specs.Decode.{piece_at, before, bytes_at, first_of, rest_of, is_raw, raw_in_both, Common, Begun}
+use Rattle.values.specs.Decode.{piece_at, before, bytes_at, first_of, rest_of, is_raw, Common, Begun}
 use Rattle.values.specs.Clean.{all_bytes}
 use native.Mathlib.Nat.{add-zero}
 use Rattle.jsontext.proofs.Sound.{split}
-use Rattle.values.specs.Names.{Later}
+use Rattle.values.specs.Names.{Later, raw_in_both}
 use Rattle.values.proofs.Decoding.{string_turn, piece_plain}
 
 -- bytes that stand for themselves

@@ -14,7 +14,7 @@ use Rattle.std.proofs.lemmas.List.Sums.{prefix_len-le-length, prefix_len_passes}
 use lib.Seq.{drop-cons}
 use lib.Dec.{ltb}
 use borrow.Author.Rules.{rules}
-use borrow.Author.Tests.{eq-eqb, ne_eqb, ltb-true, lt-ltb, le-ltb, le-leb, lt-leb, not-true, not-false}
+use borrow.Author.Tests.{eq-eqb, ne_eqb, ltb-true, lt-ltb, le-ltb, not-true, not-false}
 use Rattle.text.specs.Bytes.{is_digit}
 use Rattle.text.proofs.Tests.{cond_cases}
 use Rattle.text.proofs.ByteLaws.{between_low, between_high, digit_inside}

@@ -15,7 +15,7 @@ use Rattle.jsontext.specs.Reading.{is_space, span_at, element_at, member_at, val
 use Rattle.jsontext.proofs.Runs.{past_is}
 use Rattle.values.specs.Decode.{piece_at, bytes_at}
 use Rattle.values.specs.Tree.{Json, element, name_at, tree_at, lookup, seen, elements_from, elements_after, members_from, members_after, items, items_from}
-use Rattle.values.specs.Rules.{must, may, inside, bytes_in, StringAt, text, all, first_with, all_names}
+use Rattle.values.specs.Rules.{must, may, bytes_in, StringAt, text, all, first_with, all_names}
 use Rattle.values.proofs.Decoding.{string_turn}
 use Rattle.values.proofs.Trees.{tree_string, tree_kinds}
 use Rattle.values.proofs.Walking.{members_turn, elements_turn, after_done, after_wrong, after_more, element_after_done, element_after_wrong, element_after_more, element_less, member_less}
@@ -34,14 +34,6 @@ module _ (w : List ℕ) (j : Json) (d : ℕ) (s : List ℕ) (r : Option ℕ) (e 
 
     pub may_some : b ≡ may (lookup w j) f
     may_some = rw (e, q, ← z) u
-
--- what is made of what was found, or else z
-module _ {A : Type 0} (m : Option Json) (d : ℕ) (s : List ℕ) {f : Option ℕ} (e : m ≡ seen (tree_at d s) f) (g : Json → A) (z : A) {r : A} where
-  pub inside_none : f ≡ None → r ≡ z → r ≡ inside m g z
-  inside_none q h = rw (e, q) h
-
-  pub inside_some : {p : ℕ} → f ≡ Some p → r ≡ g (tree_at d s p) → r ≡ inside m g z
-  inside_some q h = rw (e, q) h
 
 -- any rule over the elements of an array: where a walk begins, and one element
 module _ (p : Json → Bool) (j : Json) (d : ℕ) (s : List ℕ) (r : Option ℕ) (e : items j ≡ items_from d s r) where

@@ -18,7 +18,8 @@ use Rattle.jsontext.specs.Reading.{is_space, span_at, token_at, key_at, start_of
 use Rattle.jsontext.proofs.Runs.{past_is, NextPast}
 use Rattle.jsontext.proofs.Nesting.{element_up, member_up}
 use Rattle.values.specs.Decode.{bytes_at}
-use Rattle.values.specs.Tree.{Json, no_more, element, nothing, member, onward, places, places_at, elements_at, members_at, name_at, place_at, elements_of, members_of, tree_at, find, lookup, seen, elements_from, elements_after, members_from, members_after, first_in, items, items_from, fields, fields_from}
+use Rattle.values.specs.Tree.{Json, no_more, element, nothing, member, onward, places, places_at, elements_at, members_at, name_at, place_at, elements_of, members_of, tree_at, find, lookup, seen, elements_from, elements_after, members_from, members_after, items, items_from, fields, fields_from}
+use Rattle.values.specs.Names.{first_in}
 use Rattle.values.proofs.Decoding.{string_turn, piece_stop}
 use Rattle.values.proofs.Trees.{tree_kinds, tree_array, tree_object}
 

@@ -1,7 +1,7 @@
 -- What a string of a text stands for: its bytes after escapes are decoded (RFC 8259, 7). Raw UTF-8 stands as it is, byte for byte.
 -- A surrogate escape without its partner stands as its own number, which is above 0xFF and so no byte.
 use Rattle.jsontext.specs.declared.Bad.{Bad}
-use Rattle.std.specs.Prelude.{ℕ, zero, suc, ◌+◌, ◌-◌, ◌*◌, ◌/◌, ◌%◌, ◌^◌, ◌≤◌, ◌<◌, ◌≡◌, List, [], ◌∷◌, ◌++◌, Bool, cond, ◌&&◌, ◌||◌, length, take, ltb, eqb, Option, None, Some, Result, Ok, Err, is_ok}
+use Rattle.std.specs.Prelude.{ℕ, zero, suc, ◌+◌, ◌-◌, ◌*◌, ◌/◌, ◌%◌, ◌^◌, ◌≤◌, ◌<◌, ◌≡◌, List, [], ◌∷◌, ◌++◌, Bool, cond, ◌&&◌, ◌||◌, length, take, ltb, Option, None, Some, Result, Ok, Err, is_ok}
 use Rattle.text.specs.Bytes.{byte_at, between, is_digit}
 use Rattle.jsontext.specs.Reading.{is, is_hex, is_escape, times_at}
 use Rattle.values.specs.declared.Piece.{Piece}
@@ -75,10 +75,6 @@ piece_at s i =
 -- a byte of a string that stands for itself
 unfoldable pub is_raw : ℕ → Bool
 is_raw b = between 0x20 0x21 b || (between 0x23 0x5B b || between 0x5D 0xFF b)
-
--- two bytes that are one, which stands for itself
-abbrev pub raw_in_both : ℕ × ℕ → Bool
-raw_in_both p = is_raw p.0 && eqb p.0 p.1
 
 -- a character's bytes, then what stands at the place after it
 abbrev pub before : Piece → (ℕ → List ℕ) → List ℕ

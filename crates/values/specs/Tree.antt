@@ -1,6 +1,6 @@
 -- The tree that a text stands for. It is total: what is not JSON has a tree too, of which nothing is said.
 use Rattle.jsontext.specs.declared.Bad.{Bad}
-use Rattle.std.specs.Prelude.{ℕ, zero, suc, ◌+◌, ◌-◌, ◌*◌, List, [], ◌∷◌, Bool, true, false, cond, not, ◌||◌, is_ok, length, drop, take, ltb, eqb, Option, Some, None, option_map, Result, Ok, Err}
+use Rattle.std.specs.Prelude.{ℕ, zero, suc, ◌+◌, ◌-◌, ◌*◌, List, [], ◌∷◌, Bool, true, false, cond, length, drop, take, ltb, eqb, Option, Some, None, option_map, Result, Ok, Err}
 use Rattle.text.specs.Bytes.{byte_at, is_digit}
 use Rattle.text.specs.Words.{same_bytes}
 use Rattle.jsontext.specs.declared.Next.{Next}
@@ -144,11 +144,6 @@ fields real = nothing
 fields (string b) = nothing
 fields (array es) = nothing
 fields (object ms) = ms
-
--- where the first item begins of what stands at a place, between two brackets, if it has one
-unfoldable pub first_in : ℕ → ℕ → ℕ → List ℕ → ℕ → Option ℕ
-first_in front back d s at =
-    cond (eqb d 0 || (not (eqb (byte_at s at) front) || is_ok (token_at back s (at + 1)))) None (Some (at + 1))
 
 -- those from where a walk begins, if it does
 abbrev pub items_from : ℕ → List ℕ → Option ℕ → Elements

@@ -4,7 +4,8 @@
 
 ghost use Rattle.std.specs.Prelude.{◌≡◌, ◌+◌, ◌≤◌, ◌<◌, length, drop, zip};
 ghost use Rattle.std.specs.List.{prefix_len};
-ghost use Rattle.values.specs.Decode.{digit_of, unit_at, letter_of, utf8, utf8_long, is_high, is_low, pair_of, low_at, partner_at, escaped_at, unicode_at, piece_at, is_raw, raw_in_both, Common, Begun, first_of, rest_of};
+ghost use Rattle.values.specs.Decode.{digit_of, unit_at, letter_of, utf8, utf8_long, is_high, is_low, pair_of, low_at, partner_at, escaped_at, unicode_at, piece_at, is_raw, Common, Begun, first_of, rest_of};
+ghost use Rattle.values.specs.Names.{raw_in_both};
 ghost use Rattle.jsontext.specs.Reading.{span_at};
 
 use super::Piece;

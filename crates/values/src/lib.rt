@@ -15,7 +15,8 @@ pub mod plain; // kinds of values, and integers
 pub mod names; // names in rising order
 pub mod clean; // number 6: names twice, and surrogates without partner
 
-// What is left of a string: the bytes of a character, and the place after it.
+// What is left of a string: the bytes of a character, and the place after it. A byte is below 256; a surrogate without its partner
+// is its own number, which no byte is.
 #[derive(Clone, Copy, Debug, PartialEq, Eq)]
 pub enum Piece {
     Stop,

@@ -62,7 +62,7 @@ fn plus(n: u64, b: u8) -> u64
     requires { (n ≤ 1000000) × (48 ≤ b) }
     ensures { result ≡ capped (n * 10 + (b - 48)) }
 {
-    cap(n * 10 + (b - 48) as u64)
+    cap(n * 10 + u64::from(b - 48))
 }
 
 // The number that these digits give.

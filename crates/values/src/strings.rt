@@ -13,7 +13,9 @@ use super::decode::{begun, common, first, piece, raw, rest};
 use std::cmp::Ordering;
 use text::bytes::byte_at;
 
-// The first character of the string that was found; the end of the text, where nothing stands, if there is none.
+// The first character of the string that was found; the end of the text, where nothing stands, if there is none. A place and no
+// Option: its promise (`StringAt`) is of the bytes that stand there, none at the end, so that callers compare without a case of
+// their own.
 pub fn string_place(s: &[u8], found: Option<usize>) -> usize
     ensures { StringAt s.now found result }
 {

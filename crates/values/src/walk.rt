@@ -1,12 +1,13 @@
 // Members and elements. A walk stands at the place where a member or an element begins, white space before it included; the
 // first begins after the opening bracket.
-#![tactic(auto, using(crate::proofs::Walking::walking, crate::proofs::Walking::beginning), unfolding(crate::specs::Tree::first_in, crate::specs::Tree::place_at, jsontext::specs::Reading::skip_at, jsontext::specs::Reading::element_at, jsontext::specs::Reading::member_at))]
+#![tactic(auto, using(crate::proofs::Walking::walking, crate::proofs::Walking::beginning), unfolding(crate::specs::Names::first_in, crate::specs::Tree::place_at, jsontext::specs::Reading::skip_at, jsontext::specs::Reading::element_at, jsontext::specs::Reading::member_at))]
 
 ghost use Rattle.std.specs.Prelude.{◌≡◌, ◌-◌, ◌<◌};
 ghost use Rattle.text.specs.Words.{same_bytes};
 ghost use Rattle.jsontext.specs.Reading.{key_at, member_at, element_at, value_at};
 ghost use Rattle.values.specs.Decode.{bytes_at};
-ghost use Rattle.values.specs.Tree.{name_at, place_at, tree_at, first_in, items, fields, items_from, fields_from, members_from, find, lookup, seen};
+ghost use Rattle.values.specs.Tree.{name_at, place_at, tree_at, items, fields, items_from, fields_from, members_from, find, lookup, seen};
+ghost use Rattle.values.specs.Names.{first_in};
 
 use super::strings::string_is;
 use jsontext::reader::{key, value};
@@ -53,7 +54,8 @@ pub fn member_place(s: &[u8], at: usize) -> usize
     value_place(s, at, key(s, at))
 }
 
-// Where the first character of a member's name stands.
+// Where the first character of a member's name stands; past the end, where nothing stands, if the text ends before it. A place and
+// no Option: its promise is of the bytes that stand there, as that of `string_place`.
 pub fn name_place(s: &[u8], at: usize) -> usize
     ensures { name_at s.now at ≡ bytes_at s.now result }
 {

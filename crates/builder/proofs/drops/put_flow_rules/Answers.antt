@@ -10,4 +10,4 @@ pub returns : goal.returns
 unfolding flow_words
 returns c =
     let w = c.args.work.now in
-    ap₂ (λ (l r : List ℕ). take 64 w ++ (l ++ r)) c.copy_from_slice.ensures.after (drop-drop 105 64 w) ∙ sym (append_assoc (take 64 w) flow_words (drop 169 w))
+    ap₂ (λ (l r : List ℕ). take 64 w ++ (l ++ r)) (c.copy_from_slice.ensures.after ∙ c.as_flattened.ensures.value) (drop-drop 105 64 w) ∙ sym (append_assoc (take 64 w) flow_words (drop 169 w))

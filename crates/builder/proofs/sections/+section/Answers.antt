@@ -4,9 +4,7 @@ use Rattle.builder.proofs.sections.+section.Goals as goal
 
 pub returns-then-none_accepts : goal.returns-then-none_accepts
 returns-then-none_accepts t c =
-    let a = c.args in
-    let none = c.none_accepts in
-    none_is _ _ _ c.requires.3 none.ensures c.if-none_accepts.true
+    none_is _ _ _ c.requires.3 c.none_accepts.ensures c.if-none_accepts.true
 
 pub leaf-requires : goal.leaf-requires
 leaf-requires t c =
@@ -14,9 +12,7 @@ leaf-requires t c =
 
 pub returns-then-left-eq0 : goal.returns-then-left-eq0
 returns-then-left-eq0 t c =
-    let a = c.args in
-    let leaf = c.leaf in
-    leaf_is _ _ _ c.if-left-eq0.true leaf.ensures
+    leaf_is _ _ _ c.if-left-eq0.true c.leaf.ensures
 
 pub last_section-requires : goal.last_section-requires
 last_section-requires t c =
@@ -24,13 +20,10 @@ last_section-requires t c =
 
 pub returns-then-left-eq1 : goal.returns-then-left-eq1
 returns-then-left-eq1 t c =
-    let a = c.args in
-    let last = c.last_section in
-    last_is _ _ _ c.if-left-eq1.true last.ensures
+    last_is _ _ _ c.if-left-eq1.true c.last_section.ensures
 
 pub cell_at-run-requires : goal.cell_at-run-requires
 cell_at-run-requires t c =
-    let a = c.args in
     omega (arith, first_inside c.requires.3 c.told-work c.requires.0 c.requires.1 c.requires.2 c.if-left-eq0.false, c.place-x.ensures, c.requires.1, c.requires.2)
 
 pub section-requires : goal.section-requires
@@ -39,19 +32,16 @@ section-requires t c =
 
 pub returns-in_err-first : goal.returns-in_err-first
 returns-in_err-first t c =
-    let a = c.args in
     let sec = c.section in
     rw c.from_residual.ensures (first_over c.requires.3 c.told-work c.requires.0 c.requires.1 c.requires.2 c.if-left-eq0.false c.place-x.ensures c.cell_at-run.ensures sec.ensures sec.array_long c.in_err-first.was)
 
 pub overflow_add-end : goal.overflow_add-end
 overflow_add-end t c =
-    let a = c.args in
     let sec = c.section in
     omega (arith, first_few c.requires.3 c.told-work c.requires.0 c.requires.1 c.requires.2 c.if-left-eq0.false c.place-x.ensures c.cell_at-run.ensures sec.ensures sec.array_long c.in_ok-first.was, c.requires.2)
 
 pub loop-run-init : goal.loop-run-init
 loop-run-init t c =
-    let a = c.args in
     let sec = c.section in
     record {
       turn = turn_start c.requires.3 c.told-work c.requires.0 c.requires.1 c.requires.2 c.if-left-eq0.false c.place-x.ensures c.cell_at-run.ensures sec.ensures sec.array_long c.in_ok-first.was;

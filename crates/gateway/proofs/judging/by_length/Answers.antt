@@ -7,7 +7,7 @@ use Rattle.gateway.proofs.judging.by_length.Goals as goal
 pub write-requires : goal.write-requires
 write-requires c =
     let q = built_count _ c.build.ensures c.in-Some.is in
-    (search rules, omega (arith, q.0, q.1), search rules, built_fit _ c.build.ensures c.in-Some.is)
+    (omega (arith, q.0, q.1), search rules, built_fit _ c.build.ensures c.in-Some.is)
 
 pub returns-in_default : goal.returns-in_default
 returns-in_default c = over_length c.build.ensures c.in_default.is

@@ -1,5 +1,6 @@
 use Rattle.std.proofs.Common.{arith}
-use Rattle.header.proofs.Laws.{copying, copying_full, copying_more, copying_wide}
+use Rattle.std.proofs.lemmas.Grind.{common_steps}
+use Rattle.header.proofs.Laws.{copying, copying_more, copying_over, copying_wide}
 use Rattle.header.proofs.strings.copy.Goals as goal
 
 pub loop-n-init : goal.loop-n-init
@@ -8,16 +9,17 @@ loop-n-init c = search copying
 pub returns-in_default : goal.returns-in_default
 returns-in_default c = search copying
 
+pub returns-in_err-buf : goal.returns-in_err-buf
+returns-in_err-buf c =
+    rw c.from_residual.ensures (copying_wide _ _ _ _ _ _ c.loop-n.invariant c.first.ensures c.in-Some.is (grind (arith, common_steps)))
+
 pub loop-n-preserved : goal.loop-n-preserved
 loop-n-preserved c =
-    let o = c.in-Ok.ensures in
-    copying_more _ _ _ _ _ _ c.loop-n.invariant c.first.ensures c.in-Some.is o.0 (omega (arith, c.loop-n-test.true, c.loop-n.invariant.same)) o.1 c.rest-p.ensures
+    copying_more _ _ _ _ _ _ c.loop-n.invariant c.first.ensures c.in-Some.is (grind (arith, common_steps)) (omega (arith, c.loop-n-test.true, c.loop-n.invariant.same)) (grind (arith, common_steps)) c.rest-p.ensures
 
-pub returns-in_default-try_from : goal.returns-in_default-try_from
-returns-in_default-try_from c = copying_wide _ _ _ _ _ _ c.loop-n.invariant c.first.ensures c.in-Some.is (omega (arith, c.in_default-try_from.ensures))
+pub returns-then-is_none : goal.returns-then-is_none
+returns-then-is_none c = search copying
 
-pub returns-in-None : goal.returns-in-None
-returns-in-None c = search copying
-
-pub returns-in-Some-first : goal.returns-in-Some-first
-returns-in-Some-first c = copying_full _ _ _ _ _ _ c.loop-n.invariant c.first-2.ensures c.in-Some-first.is (omega (arith, c.loop-n.invariant.same))
+pub returns-else-is_none : goal.returns-else-is_none
+returns-else-is_none c =
+    copying_over _ _ _ _ _ _ c.loop-n.invariant c.first-2.ensures (omega (arith, c.loop-n-test.false, c.loop-n.invariant.same)) c.if-is_none.ensures

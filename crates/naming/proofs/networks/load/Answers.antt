@@ -1,8 +1,6 @@
 use Rattle.naming.proofs.Masking.{masking}
 use Rattle.naming.proofs.networks.load.Goals as goal
-
-pub loop-i-preserved-in_default : goal.loop-i-preserved-in_default
-loop-i-preserved-in_default c = (search masking, search masking)
+use Rattle.naming.proofs.networks.load.Goals.{in-Some, in-None}
 
 pub loop-i-preserved : goal.loop-i-preserved
-loop-i-preserved c = (search masking, search masking)
+loop-i-preserved c = elim c.match-line_at.branch [ in-Some w ↦ rw (w.work-is, w.places-is, w.at-is) (search masking, search masking) | in-None w ↦ rw (w.work-is, w.places-is, w.at-is) (search masking, search masking) ]

@@ -1,8 +1,6 @@
 use mathlib.Core.Path.{◌≡◌}
 use mathlib.Core.Bool.{true}
-use lib.ListN.{length}
 use borrow.Author.Rules.{rules}
-use Prim.Native.Nat.{◌<◌}
 use Rattle.stored.proofs.Turning.{pair_start, pair_room, pair_on}
 use Rattle.stored.proofs.groups.Table.same.Goals as goal
 
@@ -14,11 +12,6 @@ up_to-requires c = (pair_room _ _ _ _ c.args.self.now.marked _ _ _ _ _ c.loop-a.
 
 pub up_to-requires-in-loop-a : goal.up_to-requires-in-loop-a
 up_to-requires-in-loop-a c = (pair_room _ _ _ _ c.args.self.now.marked _ _ _ _ _ c.loop-a.invariant).1
-
-pub overflow_add-j : goal.overflow_add-j
-overflow_add-j c =
-    let l : c.loop-a.j < length c.args.self.now.marks.now = (pair_room _ _ _ _ c.args.self.now.marked _ _ _ _ _ c.loop-a.invariant).1 in
-    search rules
 
 pub loop-a-preserved : goal.loop-a-preserved
 loop-a-preserved c =
