@@ -9,7 +9,7 @@ ghost use Rattle.builder.specs.Post.{BuiltTo, RunPut};
 use crate::Work;
 use crate::cells::{place, top};
 use crate::lines::{blank, close, settle};
-use crate::live::{Judged, Live, accepts, cell_at, is_known, judged_at, longer, none_accepts};
+use crate::live::{Live, accepts, cell_at, is_known, judged_at, longer, none_accepts};
 
 // A table of more lines is refused.
 const MOST_LINES: usize = 512;
@@ -28,17 +28,17 @@ fn leaf(work: &mut Work, n: usize, at: usize, live: Live, accepting: Live) -> us
 }
 
 // Puts a run of the last dimension down as line `at`, if it is accepted; where the next line goes. Runs are fewer than cells: inlined, it takes the
-// registers of the loop over the cells.
+// registers of the loop over the cells; and a `Judged` would be lent, and stored at each cell.
 #[inline(never)]
-fn put_run(work: &mut Work, at: usize, run: Judged) -> usize
-    requires { (3 * at + 3 ≤ 16290) × (run.low ≤ top_of 5) × (run.high ≤ top_of 5) }
-    ensures { RunPut at run.low run.high run.ok work.old work.new result }
+fn put_run(work: &mut Work, at: usize, low: u64, high: u64, ok: bool) -> usize
+    requires { (3 * at + 3 ≤ 16290) × (low ≤ top_of 5) × (high ≤ top_of 5) }
+    ensures { RunPut at low high ok work.old work.new result }
 {
-    if !run.ok {
+    if !ok {
         return at;
     }
     blank(work, at);
-    close(work, at, at + 1, 5, run.low, run.high);
+    close(work, at, at + 1, 5, low, high);
     at + 1
 }
 
@@ -58,11 +58,11 @@ fn last_section(work: &mut Work, n: usize, at: usize, live: Live, accepting: Liv
         if next.ok == run.ok {
             run.high = next.high;
         } else {
-            end = put_run(work, end, run);
+            end = put_run(work, end, run.low, run.high, run.ok);
             run = next;
         }
     }
-    put_run(work, end, run) - at
+    put_run(work, end, run.low, run.high, run.ok) - at
 }
 
 // The lines of the live rules with `left` dimensions left, from line `at` on. Each cell's section is built behind the pending run's,

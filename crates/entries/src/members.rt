@@ -1,7 +1,7 @@
 // Members of an object that have one of some names, found in one walk.
 #![tactic(auto, using(crate::proofs::MemberLaws::noting), unfolding(crate::specs::Members::all_noted, header::specs::Asked::is_among))]
 
-ghost use Rattle.std.specs.Prelude.{◌≡◌, ◌&&◌, length, map};
+ghost use Rattle.std.specs.Prelude.{◌≡◌, ◌&&◌, true, None, length, map, replicate};
 ghost use Rattle.text.specs.Words.{same_bytes};
 ghost use Rattle.values.specs.Decode.{bytes_at};
 ghost use Rattle.values.specs.Tree.{members_from};
@@ -90,17 +90,18 @@ fn members_behind<const N: usize>(s: &[u8], at: usize, depth: usize, names: &[&[
     }
 }
 
-// Of the object that was found.
+// Of the object that was found. Where there are not as many names as places, none is looked for.
 pub fn members_of<const N: usize>(
     s: &[u8],
     found: Option<usize>,
     depth: usize,
     names: &[&[u8]],
 ) -> Members<N>
-    requires { length names.now ≡ N }
-    ensures { MembersOf depth s.now (map (λ w. w.now) names.now) found result.places result.listed }
+    ensures each { length names.now ≡ N → MembersOf depth s.now (map (λ w. w.now) names.now) found result.places result.listed }
+    ensures none { (length names.now ≡ N → ⊥) → (result.places ≡ replicate N None) × (result.listed ≡ true) }
 {
-    if let Some(p) = found
+    if names.len() == N
+        && let Some(p) = found
         && let Some(j) = first_field(s, p, depth)
     {
         return members_behind(s, j, inner(depth), names);

@@ -19,7 +19,7 @@ tree_rows file rows =
     ∷ (not (all_sound file)
     ∷ (ltb 64 (entries_read file) ∷ rows)))))
 
--- the rows 1 to 12; in row 5 `ended`, by `decides` (jsontext), says that the text is JSON by the grammar of RFC 8259
+-- the rows 1 to 12; in row 5 `is_ok`, by `decides` (jsontext), says that the text is JSON by the grammar of RFC 8259
 unfoldable pub conditions : List ℕ → List ℕ → ℕ → ℕ → List Bool
 conditions file site reply work =
     not (sized reply work)

@@ -1,7 +1,7 @@
 // Runs the reader over the published files that `list` names, and writes a line for each: the name and the answer.
 #![tactic(auto)]
 
-ghost use Rattle.std.specs.Prelude.{◌≡◌};
+ghost use Rattle.std.specs.Prelude.{◌≡◌, ◌≢◌, ℕ, ◌<◌, ◌≤◌, length, slice_index};
 ghost use Rattle.jsonfiles.specs.Answers.{answer_of};
 
 use files::load;
@@ -40,9 +40,25 @@ fn run_file(files: &impl Files, out: &mut impl Write, name: &[u8]) -> io::Result
     writeln!(out, "\t{number}")
 }
 
+// Where the first line of a text ends: at its LF, or at the end of the text.
+fn line_end(s: &[u8]) -> usize
+    ensures within { result ≤ length s.now }
+    ensures before { (k : ℕ) → k < result → slice_index s.now k ≢ 10 }
+    ensures found { result < length s.now → slice_index s.now result ≡ 10 }
+{
+    s.iter().position(|b| *b == b'\n').unwrap_or(s.len())
+}
+
+// (No `split_inclusive`: of where it ends a line nothing would be promised here.)
 fn run_list(files: &impl Files, out: &mut impl Write, list: &[u8]) -> io::Result<()> {
-    for line in list.split_inclusive(|b| *b == b'\n') {
-        run_file(files, out, line.strip_suffix(b"\n").unwrap_or(line))?;
+    let mut left = list;
+    while !left.is_empty() {
+        let end = line_end(left);
+        run_file(files, out, &left[..end])?;
+        let Some((_, behind)) = left[end..].split_first() else {
+            break;
+        };
+        left = behind;
     }
     Ok(())
 }

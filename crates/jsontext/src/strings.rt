@@ -6,12 +6,14 @@ ghost use Rattle.jsontext.specs.Reading.{is_hex, is_escape, is_plain, span_at, t
 
 use super::Bad;
 use super::scan::{one, span, times};
-use text::bytes::{byte_at, is_between};
+use text::bytes::{byte_at, is_between, is_digit};
 
+// By `is_between`, which is out at the first range that has the byte: `is_ascii_hexdigit` asks for all three, and texts full of escapes took
+// twice as long.
 fn is_hex(b: u8) -> bool
     ensures { result ≡ is_hex b }
 {
-    b.is_ascii_hexdigit()
+    is_digit(b) || is_between(b, b'A', b'F') || is_between(b, b'a', b'f')
 }
 
 // A character of one byte that stands for itself.

@@ -1,5 +1,5 @@
 -- The site's networks as words, the places of its names, and names as masks of 64 bits over the networks.
-use Rattle.std.specs.Prelude.{Ok, ℕ, zero, suc, ◌+◌, ◌*◌, ◌≡◌, List, [], ◌∷◌, map, Bool, ◌&&◌, cond, eqb, Option, Some, None}
+use Rattle.std.specs.Prelude.{Ok, ℕ, zero, suc, ◌+◌, ◌*◌, ◌≡◌, List, [], ◌∷◌, map, Bool, false, ◌&&◌, cond, eqb, Option, Some, None}
 use Rattle.site.specs.Line.{part}
 use Rattle.site.specs.Site.{lines, judged}
 use Rattle.site.specs.declared.lines.Kind.{Kind}
@@ -31,6 +31,11 @@ PlacesOf site places = (judged site ≡ Ok tt) × (places ≡ lines_to None (λ 
 -- `names` of the line whose place this is
 unfoldable pub names_at : Kind → (List ℕ → Bool) → List ℕ → Place → Bool
 names_at kind test site p = eqb (kind_number p.kind) (kind_number kind) && test (part p.name p.end site)
+
+-- and of a place where no line may be
+abbrev pub wanted_at : Kind → (List ℕ → Bool) → List ℕ → Option Place → Bool
+wanted_at kind test site None = false
+wanted_at kind test site (Some p) = names_at kind test site p
 
 -- bit j is for element j
 unfoldable pub mask_of : List Bool → ℕ

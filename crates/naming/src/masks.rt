@@ -27,7 +27,7 @@ pub fn mask(text: &[u8], wanted: Wanted, site: &Site) -> u64
         let Some(p) = place else {
             break;
         };
-        m += bit(is_wanted(text, wanted, site.text, *p), j as u32);
+        m += bit(is_wanted(text, wanted, site.text, Some(*p)), j as u32);
     }
     m
 }

@@ -1,12 +1,12 @@
 // Which lines of the site are wanted.
 #![tactic(auto, using(crate::proofs::Comparing::wanting), unfolding(site::specs::Url::ends_authority, crate::specs::Masks::names_at))]
 
-ghost use Rattle.std.specs.Prelude.{◌≡◌, ◌≤◌, length, drop};
+ghost use Rattle.std.specs.Prelude.{◌≡◌, ◌≤◌, length, drop, IfSome};
 ghost use Rattle.text.specs.Words.{same_bytes};
 ghost use Rattle.values.specs.Decode.{bytes_at, before};
 ghost use Rattle.site.specs.Url.{ends_authority, authority_of};
 ghost use Rattle.naming.specs.Named.{kind_number};
-ghost use Rattle.naming.specs.Masks.{names_at};
+ghost use Rattle.naming.specs.Masks.{wanted_at};
 ghost use Rattle.naming.specs.Wanted.{kind_of, test_of};
 
 use crate::networks::Place;
@@ -111,11 +111,16 @@ fn passes(text: &[u8], wanted: Wanted, name: &[u8]) -> bool
     }
 }
 
-// Whether the line whose name stands at a place is wanted. Kinds are compared before names.
-pub fn is_wanted(text: &[u8], wanted: Wanted, site: &[u8], p: Place) -> bool
-    requires { (p.name ≤ p.end) × (p.end ≤ length site.now) }
-    ensures { result ≡ names_at (kind_of wanted) (test_of text.now wanted) site.now p }
+// Whether the line whose name stands at a place is wanted: none is, where there is no line. Kinds are compared before names.
+pub fn is_wanted(text: &[u8], wanted: Wanted, site: &[u8], place: Option<Place>) -> bool
+    requires { IfSome place (λ p. (p.name ≤ p.end) × (p.end ≤ length site.now)) }
+    ensures { result ≡ wanted_at (kind_of wanted) (test_of text.now wanted) site.now place }
 {
-    p.kind == kind_of(wanted)
-        && passes(text, wanted, &site[usize::from(p.name)..usize::from(p.end)])
+    match place {
+        Some(p) => {
+            p.kind == kind_of(wanted)
+                && passes(text, wanted, &site[usize::from(p.name)..usize::from(p.end)])
+        }
+        None => false,
+    }
 }

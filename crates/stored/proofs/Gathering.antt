@@ -148,6 +148,26 @@ zeros_are s at r e =
     let p : take (length s - at) (drop at s) ≡ drop at s = take_all (length s - at) (drop at s) (omega (arith, length-drop at s)) in
     rw (e, p) (fold_zero 0 (drop at s))
 
+-- a block at a time: what is left of a text
+zeros_apart : (n : ℕ) (xs : List ℕ) → all_zero xs ≡ (all_zero (take n xs) && all_zero (drop n xs))
+unfolding all_zero
+zeros_apart zero xs = refl
+zeros_apart (suc n) [] = refl
+zeros_apart (suc n) (x ∷ xs) = ap (λ (b : Bool). eqb x 0 && b) (zeros_apart n xs) ∙ sym (and_assoc (eqb x 0) (all_zero (take n xs)) (all_zero (drop n xs)))
+
+pub zeros_last : {whole : Bool} (xs : List ℕ) → whole ≡ all_zero xs → {r : ℕ} → r ≡ fold bit_or 0 xs → eqb r 0 ≡ whole
+zeros_last xs inv e = rw e (fold_zero 0 xs) ∙ sym inv
+
+module _ {whole : Bool} (xs block : List ℕ) (n : ℕ) (inv : whole ≡ all_zero xs) (b : block ≡ take n xs) {r : ℕ} (e : r ≡ fold bit_or 0 block) where
+  front : eqb r 0 ≡ all_zero (take n xs)
+  front = rw (e, b) (fold_zero 0 (take n xs))
+
+  pub zeros_refused : (r ≡ 0 → ⊥) → false ≡ whole
+  zeros_refused k = sym (inv ∙ zeros_apart n xs ∙ ap (λ (t : Bool). t && all_zero (drop n xs)) (sym front ∙ ne_eqb r 0 k))
+
+  pub zeros_on : r ≡ 0 → whole ≡ all_zero (drop n xs)
+  zeros_on k = inv ∙ zeros_apart n xs ∙ ap (λ (t : Bool). t && all_zero (drop n xs)) (sym front ∙ eq-eqb r 0 k)
+
 pub zeros_end : (s : List ℕ) (i : ℕ) → length s ≤ i → true ≡ all_zero (drop i s)
 unfolding all_zero
 zeros_end s i l = rw (drop_of_length-le s l)
