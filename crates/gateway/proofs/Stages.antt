@@ -129,6 +129,12 @@ module _ (file site : List ℕ) (reply work : ℕ) where
   unfolding answer_of sized
   right_sizes r w = rw (eq-eqb reply 36864 r, eq-eqb work 16290 w)
 
+-- named by docs/PORT.md: they stand, though no proof cites them now
+module _ (reply work : ℕ) {b : Bool} (e : b ≡ sized reply work) where
+  pub wrong_sizes : (file site : List ℕ) → b ≡ false → Err Buffers ≡ answer_of file site reply work
+  unfolding answer_of
+  wrong_sizes file site n = rw (← e, n)
+
 -- ## the buffers at the end
 module _ {file site : List ℕ} {reply work : ℕ} {r : Result ℕ Reason} {bytes : List ℕ} (h : Answered (answer_of file site reply work) (table_for file site) r bytes) {words : List ℕ} (w : words ≡ replicate work 0) where
   pub ends_taken : is_err r ≡ false → BuildPromise file site reply work r bytes words

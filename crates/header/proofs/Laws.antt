@@ -281,4 +281,29 @@ pub header_is : (mud : Json) → header_ok mud
 unfolding header_ok
 header_is mud = simp and_assoc
 
+-- named by docs/PORT.md: they stand, though no proof cites them now
+module _ (mud : Json) {a : Bool} (e : a ≡ must (lookup (ascii "mud-version") mud) (obeys (Integer 1 1))) where
+  pub header_version : a ≡ false → false ≡ header_ok mud
+  unfolding header_ok
+  header_version n = rw (← e, n)
+
+  module _ (y : a ≡ true) {b : Bool} (f : b ≡ must (lookup (ascii "mud-url") mud) (obeys (Spelt Url))) where
+    pub header_url : b ≡ false → false ≡ header_ok mud
+    unfolding header_ok
+    header_url n = rw (← e, y, ← f, n)
+
+    module _ (z : b ≡ true) {c : Bool} (g : c ≡ must (lookup (ascii "last-update") mud) (obeys Text)) where
+      pub header_update : c ≡ false → false ≡ header_ok mud
+      unfolding header_ok
+      header_update n = rw (← e, y, ← f, z, ← g, n)
+
+      module _ (w : c ≡ true) {d : Bool} (h : d ≡ must (lookup (ascii "is-supported") mud) (obeys Boolean)) where
+        pub header_supported : d ≡ false → false ≡ header_ok mud
+        unfolding header_ok
+        header_supported n = rw (← e, y, ← f, z, ← g, w, ← h, n)
+
+        pub header_validity : d ≡ true → {r : Bool} → r ≡ may (lookup (ascii "cache-validity") mud) (obeys (Integer 1 168)) → r ≡ header_ok mud
+        unfolding header_ok
+        header_validity n q = rw (← e, y, ← f, z, ← g, w, ← h, n) q
+
 pub ruleset asking = (rules, text_not, text_is, nulls_empty, nulls_not, nulls_done, nulls_wrong, nulls_more)

@@ -18,7 +18,7 @@ use Rattle.std.specs.Result.{IsErrAnd}
 use Rattle.std.proofs.lemmas.Result.{err_from_is_err_and}
 use Rattle.jsontext.specs.declared.Next.{Next}
 use Rattle.jsontext.specs.declared.Next.TheVariants.{Done, More}
-use Rattle.jsontext.specs.Reading.{◌>>=◌, is, span_at, one_at, times_at, word_at, run, after}
+use Rattle.jsontext.specs.Reading.{refused, ◌>>=◌, is, span_at, one_at, times_at, word_at, run, after}
 use Rattle.jsontext.proofs.Sound.{split, Steps, finish, onward, wrong, seg_end}
 use Rattle.jsontext.proofs.Complete.{span_more, span_stop, span_end}
 
@@ -62,6 +62,12 @@ module _ (p : ℕ → Bool) (s : List ℕ) (n c i : ℕ) {w : Result ℕ Bad} (i
 
     pub times_on : {k : ℕ} → r ≡ Ok k → w ≡ times_at p (n - (c + 1)) s k
     times_on q = rw q at times_next
+
+-- named by docs/PORT.md: they stand, though no proof cites them now
+pub times_not : (p : ℕ → Bool) (s : List ℕ) (n i : ℕ) {w : Result ℕ Bad} → w ≡ times_at p n s i → 0 < n → {b : ℕ} → b ≡ get_or s i 0 → {t : Bool} → t ≡ p b → t ≡ false → refused i ≡ w
+unfolding times_at one_at
+times_not p s zero i inv h e f q = absurd (omega arith)
+times_not p s (suc n) i inv h e {t} f q = sym (rw (← e, ← f, q) at inv)
 
 -- fixed bytes
 module _ (v s : List ℕ) (n i : ℕ) {w : Result ℕ Bad} (inv : w ≡ word_at (drop n v) s i) where

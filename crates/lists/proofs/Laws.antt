@@ -182,6 +182,11 @@ module _ (o n : List ℕ) (d : ℕ) (s : List ℕ) (at : ℕ) {r : Option ℕ} (
 
 -- ## policies
 module _ (d : Direction) (s : List ℕ) (file mud : ℕ) {a : Bool} (e : a ≡ policy_ok d (tree_at 15 s mud)) where
+  -- named by docs/PORT.md: they stand, though no proof cites them now
+  pub direction_policy : a ≡ false → false ≡ direction_ok d (tree_at 16 s file) (tree_at 15 s mud)
+  unfolding direction_ok
+  direction_policy n = rw (← e, n)
+
   module _ (y : a ≡ true) {r : Option ℕ} (f : policy_lists d (tree_at 15 s mud) ≡ items_from 11 s r) where
     pub direction_some : {p : ℕ} → r ≡ Some p → (l : Option ℕ) → lists_of (tree_at 16 s file) ≡ items_from 13 s l → {b : Bool} → b ≡ all (named_ok (items_from 13 s l)) (elements_from 11 s p) → b ≡ direction_ok d (tree_at 16 s file) (tree_at 15 s mud)
     unfolding direction_ok

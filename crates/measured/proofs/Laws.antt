@@ -1,7 +1,7 @@
 -- The ways out of the measured functions. Assumes nothing.
 use Prim.Native.Nat.{ℕ}
 use mathlib.Core.Path.{◌≡◌, refl, sym, ap, ◌∙◌}
-use mathlib.Core.Bool.{Bool, true, cond}
+use mathlib.Core.Bool.{Bool, true, false, cond}
 use mathlib.Core.List.{List}
 use Rattle.std.specs.Prelude.{Option, Some, None, unwrap_or, Result, Ok, Err, is_ok}
 use lib.Dec.{leb}
@@ -19,7 +19,7 @@ use Rattle.jsontext.specs.Judged.{Answer}
 use Rattle.stored.specs.Text.{reply_of}
 use Rattle.reply.specs.Lines.{lines_in}
 use Rattle.reply.proofs.Built.{built_count, built_are}
-use Rattle.measured.specs.Measured.{text_number, sized, capped, lines_number, written_over, Written}
+use Rattle.measured.specs.Measured.{text_number, sized, all_sized, capped, lines_number, written_over, Written, Replied}
 
 -- ## texts
 pub text_told : (s : List ℕ) (r : Result ℕ Bad) → Answer 16 s r → cond (is_ok r) 1 0 ≡ text_number (text_of 16 s)
@@ -48,5 +48,18 @@ lines_written S b q p =
     let h = built_count S b q in
     let z = le-leb (length (table_of widths S)) 512 h.1 in
     record { number = rw z (sym h.0); bytes = rw z (p ∙ ap reply_of (built_are S b q)) }
+
+-- named by docs/PORT.md: they stand, though no proof cites them now
+module _ (work n : ℕ) {b : Bool} (e : b ≡ sized work n) where
+  pub unsized_number : (t : Table) → b ≡ false → 1000000 ≡ lines_number work n t
+  unfolding lines_number
+  unsized_number t h = rw (← e, h)
+
+module _ (work n : ℕ) (t : Table) (reply : List ℕ) {b : Bool} (e : b ≡ all_sized (length reply) work n) where
+  pub none_replied : b ≡ false → Replied work n t reply 1000000 reply
+  none_replied h = record { number = rw (← e, h); bytes = rw (← e, h) }
+
+  pub replied : b ≡ true → {r : Option ℕ} {reply' : List ℕ} → Written t reply r reply' → Replied work n t reply (unwrap_or r 513) reply'
+  replied h w = record { number = rw (← e, h) w.number; bytes = rw (← e, h) w.bytes }
 
 pub ruleset measuring = (rules, text_told)

@@ -7,7 +7,7 @@ use native.Mathlib.Nat.{add-zero, zero-add, mul-zero, mul-one, one-mul, mul-add,
 use native.Mathlib.Numerals.{add-one}
 use native.Mathlib.Omega.{arith}
 use mathlib.Core.Path.{◌≡◌, refl, sym, ap, ◌∙◌}
-use mathlib.Core.Bool.{Bool, true, cond}
+use mathlib.Core.Bool.{Bool, true, false, cond}
 use mathlib.Core.List.{List, [], ◌∷◌, ◌++◌, map, append-nil, append_assoc}
 use lib.ListN.{length, take, drop, get_or, set, length-set, take-append-drop, drop_of_length-le}
 use lib.Seq.{take-suc-set, drop-set-lt, drop-nil, drop-drop}
@@ -132,6 +132,10 @@ pub record Masking (named : SiteLine → Bool) (site : List ℕ) (j m : ℕ) : T
   pub whole : named_mask named site ≡ m + 2 ^ j * mask_of (map named (drop j (lines site 0)))
 
 module _ (on : Bool) (j : ℕ) where
+  -- named by docs/PORT.md: they stand, though no proof cites them now
+  pub bit_off : on ≡ false → 0 ≡ cond on (2 ^ j) 0
+  bit_off n = rw n
+
   pub bit_on : on ≡ true → j < 64 → 1 * 2 ^ j % 18446744073709551616 ≡ cond on (2 ^ j) 0
   bit_on n h =
       let p : 2 ^ j ≤ 9223372036854775808 = pow-le-pow_right (omega arith) {i = j} {j = 63} (omega arith) in

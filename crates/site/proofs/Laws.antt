@@ -2,15 +2,18 @@
 use Prim.Native.Nat.{ℕ, suc, ◌+◌, ◌-◌, ◌^◌, ◌≤◌, ◌<◌}
 use mir.Syntax.{w64}
 use mir.Val.{Fits}
+use native.Mathlib.Nat.{add-zero}
+use native.Mathlib.Numerals.{add-one}
 use native.Mathlib.Omega.{arith}
 use mathlib.Core.Path.{◌≡◌, refl, sym, ap, ◌∙◌, subst}
-use mathlib.Core.Bool.{Bool, true, cond, not}
+use mathlib.Core.Bool.{Bool, true, false, cond, not}
 use mathlib.Core.List.{List, [], ◌∷◌}
-use lib.ListN.{length, drop, get_or, length-drop}
+use lib.ListN.{length, drop, get_or, drop_of_length-le, length-drop}
 use lib.Seq.{drop-cons}
 use Rattle.std.specs.List.{prefix_len}
 use Rattle.std.proofs.lemmas.List.Sums.{sum_by-cons, prefix_len-le-length}
 use borrow.Author.Rules.{rules}
+use borrow.Author.Tests.{lt-leb, le-leb}
 use Rattle.text.specs.Bytes.{between, is_at}
 use Rattle.text.specs.Ascii.{ascii}
 use Rattle.text.specs.Words.{has_at}
@@ -18,14 +21,14 @@ use Rattle.text.proofs.Walk.{Onward, walk_turn, walk_end}
 use Rattle.text.proofs.NetworkLaws.{SoundNet, network_sound}
 use Rattle.text.proofs.Tests.{by_test, cond_cases, and_right}
 use Rattle.text.proofs.ByteLaws.{at_inside, at_is}
-use Rattle.site.specs.Url.{ends_authority, until_end, authority_of}
+use Rattle.site.specs.Url.{printable, ends_authority, until_end, authority_of, is_mud_url}
 use Rattle.text.specs.Networks.{network_at}
 use Rattle.text.specs.Numbers.{then_read}
 use Rattle.text.specs.declared.networks.Net.{Net}
 use Rattle.std.specs.Prelude.{Option, Some, None}
 use Rattle.std.proofs.lemmas.Option.{some_pair_parts}
 use Rattle.site.specs.Line.{word_at, kind_at, name_length, name_ok, rest_at, part, line_at}
-use lib.Dec.{eqb}
+use lib.Dec.{ltb, eqb}
 use Rattle.site.specs.Site.{line_feeds, item_of, stop}
 use Rattle.site.specs.declared.lines.Kind.{Kind}
 use Rattle.site.specs.declared.lines.Kind.TheVariants.{Host, Class, Mine, Local, Thing}
@@ -60,6 +63,74 @@ room s at b a h y = omega (arith, at_inside s at b (sym h ∙ y))
 -- LF bytes from a place on
 pub feeds_at : (s : List ℕ) (j : ℕ) → j < length s → line_feeds (drop j s) ≡ cond (eqb (get_or s j 0) 0x0A) 1 0 + line_feeds (drop (suc j) s)
 feeds_at s j h = rw (drop-cons s j 0 h) (sum_by-cons (λ b. cond (eqb b 0x0A) 1 0) (get_or s j 0) (drop (suc j) s))
+
+-- named by docs/PORT.md: they stand, though no proof cites them now
+module _ (u : List ℕ) (i : ℕ) where
+  pub printable_end : printable u ≡ printable (drop i u) → length u ≤ i → true ≡ printable u
+  printable_end e h = sym (e ∙ rw (drop_of_length-le u h))
+
+  module _ (h : i < length u) (b : Bool) (t : b ≡ between 0x21 0x7E (get_or u i 0)) where
+    pub printable_not : printable u ≡ printable (drop i u) → b ≡ false → false ≡ printable u
+    printable_not e n = sym (e ∙ rw (drop-cons u i 0 h, ← t, n))
+
+    pub printable_more : printable u ≡ printable (drop i u) → b ≡ true → printable u ≡ printable (drop (i + 1) u)
+    printable_more e n = e ∙ rw (drop-cons u i 0 h, ← t, n, add-one i)
+
+module _ (u : List ℕ) where
+  pub url_long : 255 < length u → false ≡ is_mud_url u
+  unfolding is_mud_url
+  url_long h = rw (lt-leb (length u) 255 h)
+
+  module _ (l : length u ≤ 255) (a : Bool) (p : a ≡ printable u) where
+    pub url_unprintable : a ≡ false → false ≡ is_mud_url u
+    unfolding is_mud_url
+    url_unprintable n = rw (le-leb (length u) 255 l, ← p, n)
+
+    module _ (y : a ≡ true) (b : Bool) (q : b ≡ has_at u 0 (ascii "https://")) where
+      pub url_scheme : b ≡ false → false ≡ is_mud_url u
+      unfolding is_mud_url has_at
+      url_scheme n = rw (le-leb (length u) 255 l, ← p, y, ← q, n)
+
+      pub url_authority : b ≡ true → (k : ℕ) → k ≡ length (authority_of u) → ltb 0 k ≡ is_mud_url u
+      unfolding is_mud_url has_at
+      url_authority n k e = rw (le-leb (length u) 255 l, ← p, y, ← q, n, e)
+
+-- a name, of which the bytes up to i are passed
+module _ (s : List ℕ) (at i : ℕ) (e : at + name_length (drop at s) ≡ i + name_length (drop i s)) (h : i < length s) (b : Bool) (t : b ≡ between 0x21 0x7E (get_or s i 0)) where
+  pub name_other : b ≡ false → i ≡ at + name_length (drop at s)
+  name_other n = sym (e ∙ rw (drop-cons s i 0 h, ← t, n) (add-zero i))
+
+  pub name_more : b ≡ true → at + name_length (drop at s) ≡ (i + 1) + name_length (drop (i + 1) s)
+  name_more n = e ∙ rw (drop-cons s i 0 h, ← t, n, add-one i) (omega arith)
+
+-- the network and the LF of a line
+module _ (kind : Kind) (from end : ℕ) (s : List ℕ) (a : Bool) (h : a ≡ is_at s end 0x09) where
+  pub rest_tab : a ≡ false → None ≡ rest_at kind from end s
+  unfolding rest_at
+  rest_tab n = rw (← h, n)
+
+  module _ (y : a ≡ true) (r : Option (Net × ℕ)) (q : r ≡ network_at s (end + 1)) where
+    pub rest_none : r ≡ None → None ≡ rest_at kind from end s
+    unfolding rest_at
+    rest_none n = rw (← h, y, ← q, n)
+
+    module _ (net : Net) (after : ℕ) (n : r ≡ Some (net, after)) (b : Bool) (t : b ≡ is_at s after 0x0A) where
+      pub rest_open : b ≡ false → None ≡ rest_at kind from end s
+      unfolding rest_at
+      rest_open m = rw (← h, y, ← q, n, ← t, m)
+
+      pub rest_line : b ≡ true → Some (record { kind = kind; name = from; end = end; low = net.low; high = net.high; after = after + 1 }) ≡ rest_at kind from end s
+      unfolding rest_at
+      rest_line m = rw (← h, y, ← q, n, ← t, m)
+
+module _ (s : List ℕ) (at : ℕ) (r : Option (Kind × ℕ)) (h : r ≡ kind_at s at) (kind : Kind) (from : ℕ) (y : r ≡ Some (kind, from)) (end : ℕ) (e : end ≡ from + name_length (drop from s)) (b : Bool) (o : b ≡ name_ok kind (part from end s)) where
+  pub line_name : b ≡ false → None ≡ line_at s at
+  unfolding line_at
+  line_name n = rw (← h, y, ← e, ← o, n)
+
+  pub line_rest : b ≡ true → (q : Option SiteLine) → q ≡ rest_at kind from end s → q ≡ line_at s at
+  unfolding line_at
+  line_rest n q t = rw (← h, y, ← e, ← o, n) t
 
 -- ## where a line's parts lie
 abbrev pub SoundKind : List ℕ → ℕ → Option (Kind × ℕ) → Type 0

@@ -18,7 +18,7 @@ use Rattle.std.proofs.lemmas.Nat.{le_or_l, le_or_r}
 use Rattle.text.specs.Bytes.{byte_at, between}
 use Rattle.text.specs.Numbers.{number_at, closed_by}
 use Rattle.text.proofs.Tests.{by_test, clash, and-false, and_left}
-use Rattle.flows.specs.Table.{Point, Table, in_line, in_table}
+use Rattle.flows.specs.Table.{Point, Table, in_range, in_line, in_table}
 use Rattle.flows.specs.Flow.{widths, is_flow}
 use Rattle.flows.specs.Canonical.{canonical}
 use Rattle.flows.specs.Numbers.{point_of}
@@ -125,6 +125,38 @@ module _ (s : List ℕ) (p : Point) (ms : List ℕ) (n at : ℕ) (before : struc
             }
 
 pub ruleset gathering = (rules, gather_start, gather_full, gather_none, gather_place, gather_more)
+
+-- ## a flow in a line
+-- named by docs/PORT.md: they stand, though no proof cites them now
+module _ (l : struct.Line) (f : numbers.Numbers) (z₀ : Bool) (e₀ : z₀ ≡ in_range (l.direction / 4294967296) (l.direction % 4294967296) f.direction) where
+  pub holds_0 : z₀ ≡ false → false ≡ in_line (ranges l) (point_of f)
+  unfolding ranges in_line
+  holds_0 u = rw (← e₀, u)
+
+  module _ (u₀ : z₀ ≡ true) (z₁ : Bool) (e₁ : z₁ ≡ in_range (l.protocol / 4294967296) (l.protocol % 4294967296) f.protocol.0) where
+    pub holds_1 : z₁ ≡ false → false ≡ in_line (ranges l) (point_of f)
+    unfolding ranges in_line
+    holds_1 u = rw (← e₀, u₀, ← e₁, u)
+
+    module _ (u₁ : z₁ ≡ true) (z₂ : Bool) (e₂ : z₂ ≡ in_range (l.opener / 4294967296) (l.opener % 4294967296) f.opener) where
+      pub holds_2 : z₂ ≡ false → false ≡ in_line (ranges l) (point_of f)
+      unfolding ranges in_line
+      holds_2 u = rw (← e₀, u₀, ← e₁, u₁, ← e₂, u)
+
+      module _ (u₂ : z₂ ≡ true) (z₃ : Bool) (e₃ : z₃ ≡ in_range (l.address / 4294967296) (l.address % 4294967296) f.address.0) where
+        pub holds_3 : z₃ ≡ false → false ≡ in_line (ranges l) (point_of f)
+        unfolding ranges in_line
+        holds_3 u = rw (← e₀, u₀, ← e₁, u₁, ← e₂, u₂, ← e₃, u)
+
+        module _ (u₃ : z₃ ≡ true) (z₄ : Bool) (e₄ : z₄ ≡ in_range (l.remote / 4294967296) (l.remote % 4294967296) f.remote.0) where
+          pub holds_4 : z₄ ≡ false → false ≡ in_line (ranges l) (point_of f)
+          unfolding ranges in_line
+          holds_4 u = rw (← e₀, u₀, ← e₁, u₁, ← e₂, u₂, ← e₃, u₃, ← e₄, u)
+
+          module _ (u₄ : z₄ ≡ true) (z₅ : Bool) (e₅ : z₅ ≡ in_range (l.device / 4294967296) (l.device % 4294967296) f.device.0) where
+            pub holds_5 : z₅ ≡ in_line (ranges l) (point_of f)
+            unfolding ranges in_line
+            holds_5 = rw (← e₀, u₀, ← e₁, u₁, ← e₂, u₂, ← e₃, u₃, ← e₄, u₄, ← e₅) (sym (and-true z₅))
 
 -- ## zeros
 or_zero : (a b : ℕ) → eqb (bit_or a b) 0 ≡ (eqb a 0 && eqb b 0)

@@ -148,6 +148,13 @@ module _ (s ms : List ℕ) (w : Table) (n : ℕ) (m : ∥ Marked s ms w n ∥₁
     pub pair_room : (i < n) × (j < n)
     pair_room = (omega (arith, p.order, p.within, count_of m), omega (arith, p.within, count_of m))
 
+    -- named by docs/PORT.md: they stand, though no proof cites them now
+    pub pair_place_first : (x : ℕ) → x ≡ get_or ms i 0 / 64 → x ≤ length s
+    pair_place_first x e = omega (arith, e, place_of m i pair_room.0)
+
+    pub pair_place_second : (y : ℕ) → y ≡ get_or ms j 0 / 64 → y ≤ length s
+    pair_place_second y e = omega (arith, e, place_of m j pair_room.1)
+
     module _ (x y : List ℕ) (ex : x ≡ take (get_or ms i 0 / 64) s) (ey : y ≡ take (get_or ms j 0 / 64) s) (o : 0 < d) (l : d ≤ 6) (z : Bool) (ez : z ≡ same_back (6 - d) (reverse x) (reverse y)) where
       tails : z ≡ eq_line (drop d (row w i)) (drop d (row w j))
       tails = ez ∙ rw (ex, ey) (tails_of m d i j o l (omega (arith, p.order, p.within, count_of m)) (omega (arith, p.within, count_of m)))

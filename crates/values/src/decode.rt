@@ -2,7 +2,7 @@
 // strings are compared while they are decoded and nothing is copied.
 #![tactic(auto, using(crate::proofs::Decoding::spelling), unfolding(crate::specs::Decode::digit_of, crate::specs::Decode::unit_at, crate::specs::Decode::letter_of, crate::specs::Decode::utf8, crate::specs::Decode::utf8_long, crate::specs::Decode::pair_of, crate::specs::Decode::low_at, crate::specs::Decode::partner_at, crate::specs::Decode::escaped_at, crate::specs::Decode::unicode_at, crate::specs::Decode::piece_at, crate::specs::Decode::is_raw))]
 
-ghost use Rattle.std.specs.Prelude.{◌≡◌, ◌+◌, ◌≤◌, ◌<◌, length, drop, zip};
+ghost use Rattle.std.specs.Prelude.{◌≡◌, ◌+◌, ◌≤◌, ◌<◌, length, zip};
 ghost use Rattle.std.specs.List.{prefix_len};
 ghost use Rattle.values.specs.Decode.{digit_of, unit_at, letter_of, utf8, utf8_long, is_high, is_low, pair_of, low_at, partner_at, escaped_at, unicode_at, piece_at, is_raw, Common, Begun, first_of, rest_of};
 ghost use Rattle.values.specs.Names.{raw_in_both};
@@ -11,7 +11,7 @@ ghost use Rattle.jsontext.specs.Reading.{span_at};
 use super::Piece;
 use jsontext::scan::span;
 use jsontext::strings::{hex, is_escape};
-use text::bytes::{byte_at, is_between, is_digit};
+use text::bytes::{byte_at, from, is_between, is_digit};
 
 // The number that a digit of base 16 stands for.
 fn digit(b: u8) -> u32
@@ -169,13 +169,6 @@ pub fn raw(s: &[u8], at: usize) -> usize
     ensures { result ≡ span_at is_raw s.now at }
 {
     span(s, at, is_raw)
-}
-
-// What stands from a place on: nothing, past the end.
-fn from<'a>(s: &'a [u8], at: usize) -> &'a [u8]
-    ensures { result.now ≡ drop at s.now }
-{
-    s.get(at..).unwrap_or(&[])
 }
 
 // How many places from the front on two texts have one byte in common, which stands for itself.
